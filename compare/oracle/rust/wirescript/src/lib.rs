@@ -1,0 +1,7 @@
+//! Stands for the crate root of wirescript, which docs/src does not hold: the modules that the
+//! fold is made of and uses. Lints for unused items are off, since the sweeps are not called.
+#![allow(dead_code, unused_imports)]
+
+pub mod catalog;
+pub mod lower;
+pub use wirescript_ir::{collections, intern, ir};

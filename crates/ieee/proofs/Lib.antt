@@ -1,0 +1,5 @@
+pub mod Bits
+pub mod Finite
+pub mod Integral
+mod Values
+mod Truncation

@@ -1,0 +1,5 @@
+pub mod Ports
+pub mod Classes
+pub mod Kinds
+pub mod Flags
+pub mod Limits

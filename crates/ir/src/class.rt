@@ -1,0 +1,219 @@
+// The classes of nodes: how each folds, and its inputs.
+use crate::Folding;
+use crate::port;
+use crate::wide;
+ghost use mathlib.Core.Path.{_≡_};
+ghost use Rattle.ir.specs.Classes.{foldingOf, inputCount, inputPort, hasRows, isClass, isAnnihilator};
+
+pub const COUNT: usize = 42;
+
+pub const LITERAL: u8 = 1;
+
+pub const MICROCHIP_INPUT: u8 = 2;
+
+pub const MICROCHIP_OUTPUT: u8 = 3;
+
+pub const SELECT: u8 = 4;
+
+pub const BRANCH: u8 = 5;
+
+pub const COMPARE_EQUAL: u8 = 6;
+
+pub const COMPARE_NOT_EQUAL: u8 = 7;
+
+pub const COMPARE_LESS: u8 = 8;
+
+pub const COMPARE_LESS_OR_EQUAL: u8 = 9;
+
+pub const COMPARE_GREATER: u8 = 10;
+
+pub const COMPARE_GREATER_OR_EQUAL: u8 = 11;
+
+pub const LOGICAL_AND: u8 = 12;
+
+pub const LOGICAL_OR: u8 = 13;
+
+pub const LOGICAL_XOR: u8 = 14;
+
+pub const LOGICAL_NOT: u8 = 15;
+
+pub const LOGICAL_NAND: u8 = 16;
+
+pub const LOGICAL_NOR: u8 = 17;
+
+pub const MATH_ADD: u8 = 18;
+
+pub const MATH_SUBTRACT: u8 = 19;
+
+pub const MATH_MULTIPLY: u8 = 20;
+
+pub const MATH_DIVIDE: u8 = 21;
+
+pub const MATH_MODULO: u8 = 22;
+
+pub const MATH_ABS: u8 = 23;
+
+pub const MATH_SIGN: u8 = 24;
+
+pub const MATH_NEGATE: u8 = 25;
+
+pub const MATH_MIN: u8 = 26;
+
+pub const MATH_MAX: u8 = 27;
+
+pub const MATH_CLAMP: u8 = 28;
+
+pub const MATH_MOD_FLOORED: u8 = 29;
+
+pub const ROUND: u8 = 30;
+
+pub const FLOOR: u8 = 31;
+
+pub const CEIL: u8 = 32;
+
+pub const BITWISE_AND: u8 = 33;
+
+pub const BITWISE_OR: u8 = 34;
+
+pub const BITWISE_XOR: u8 = 35;
+
+pub const BITWISE_NOT: u8 = 36;
+
+pub const BITWISE_NAND: u8 = 37;
+
+pub const BITWISE_NOR: u8 = 38;
+
+pub const BITWISE_SHIFT_LEFT: u8 = 39;
+
+pub const BITWISE_SHIFT_RIGHT: u8 = 40;
+
+pub const BITWISE_BIT_COUNT: u8 = 41;
+
+const FOLDINGS: [Folding; COUNT] = [
+    Folding::Never, // any other
+    Folding::Literal, // LITERAL
+    Folding::Microchip, // MICROCHIP_INPUT
+    Folding::Microchip, // MICROCHIP_OUTPUT
+    Folding::Select, // SELECT
+    Folding::Branch, // BRANCH
+    Folding::Binary, // COMPARE_EQUAL
+    Folding::Binary, // COMPARE_NOT_EQUAL
+    Folding::Binary, // COMPARE_LESS
+    Folding::Binary, // COMPARE_LESS_OR_EQUAL
+    Folding::Binary, // COMPARE_GREATER
+    Folding::Binary, // COMPARE_GREATER_OR_EQUAL
+    Folding::Binary, // LOGICAL_AND
+    Folding::Binary, // LOGICAL_OR
+    Folding::Binary, // LOGICAL_XOR
+    Folding::Unary, // LOGICAL_NOT
+    Folding::Binary, // LOGICAL_NAND
+    Folding::Binary, // LOGICAL_NOR
+    Folding::Binary, // MATH_ADD
+    Folding::Binary, // MATH_SUBTRACT
+    Folding::Binary, // MATH_MULTIPLY
+    Folding::Binary, // MATH_DIVIDE
+    Folding::Binary, // MATH_MODULO
+    Folding::Unary, // MATH_ABS
+    Folding::Unary, // MATH_SIGN
+    Folding::Unary, // MATH_NEGATE
+    Folding::Binary, // MATH_MIN
+    Folding::Binary, // MATH_MAX
+    Folding::Ternary, // MATH_CLAMP
+    Folding::Binary, // MATH_MOD_FLOORED
+    Folding::Unary, // ROUND
+    Folding::Unary, // FLOOR
+    Folding::Unary, // CEIL
+    Folding::Binary, // BITWISE_AND
+    Folding::Binary, // BITWISE_OR
+    Folding::Binary, // BITWISE_XOR
+    Folding::Unary, // BITWISE_NOT
+    Folding::Binary, // BITWISE_NAND
+    Folding::Binary, // BITWISE_NOR
+    Folding::Binary, // BITWISE_SHIFT_LEFT
+    Folding::Binary, // BITWISE_SHIFT_RIGHT
+    Folding::Unary, // BITWISE_BIT_COUNT
+];
+
+pub fn is_class(class: u8) -> bool
+    ensures { λ r. ⌜ r ≡ isClass class ⌝ }
+{
+    wide(class) < COUNT
+}
+
+pub fn folding_of(class: u8) -> Folding
+    ensures { λ r. ⌜ r ≡ foldingOf class ⌝ }
+{
+    let i = wide(class);
+    if i < COUNT {
+        FOLDINGS[i]
+    } else {
+        Folding::Never
+    }
+}
+
+pub fn input_count(folding: Folding) -> usize
+    ensures { λ r. ⌜ r ≡ inputCount folding ⌝ }
+{
+    match folding {
+        Folding::Never => 0,
+        Folding::Literal => 0,
+        Folding::Microchip => 1,
+        Folding::Select => 1,
+        Folding::Branch => 1,
+        Folding::Unary => 1,
+        Folding::Binary => 2,
+        Folding::Ternary => 3,
+    }
+}
+
+fn first_port(folding: Folding) -> u8
+    ensures { λ r. ⌜ r ≡ inputPort folding 0 ⌝ }
+{
+    match folding {
+        Folding::Never => port::OUTPUT,
+        Folding::Literal => port::OUTPUT,
+        Folding::Microchip => port::RER_INPUT,
+        Folding::Select => port::B_SELECT_B,
+        Folding::Branch => port::B_COND,
+        Folding::Unary => port::INPUT_A,
+        Folding::Binary => port::INPUT_A,
+        Folding::Ternary => port::INPUT_A,
+    }
+}
+
+// The port of an input, or Output past the last.
+pub fn input_port(folding: Folding, i: usize) -> u8
+    ensures { λ r. ⌜ r ≡ inputPort folding i ⌝ }
+{
+    if input_count(folding) <= i {
+        return port::OUTPUT;
+    }
+    match i {
+        0 => first_port(folding),
+        1 => port::INPUT_B,
+        _ => port::THIRD_INPUT,
+    }
+}
+
+// Whether the table has rows for the class.
+pub fn has_rows(folding: Folding) -> bool
+    ensures { λ r. ⌜ r ≡ hasRows folding ⌝ }
+{
+    match folding {
+        Folding::Never => false,
+        Folding::Literal => false,
+        Folding::Microchip => false,
+        Folding::Select => true,
+        Folding::Branch => true,
+        Folding::Unary => true,
+        Folding::Binary => true,
+        Folding::Ternary => true,
+    }
+}
+
+// Whether the class may have an annihilator record.
+pub fn is_annihilator(class: u8) -> bool
+    ensures { λ r. ⌜ r ≡ isAnnihilator class ⌝ }
+{
+    (class == LOGICAL_AND) | (class == LOGICAL_OR)
+}

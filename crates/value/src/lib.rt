@@ -1,0 +1,64 @@
+// What wires carry, what a gate's input has, and what a gate gives.
+ghost use mathlib.Core.Path.{_≡_};
+ghost use Rattle.value.specs.Variants.{variantOf, inVariant};
+use ir::variant;
+
+pub enum Value {
+    Int(i64),
+    Float(f64),
+    Bool(bool),
+    Vector { x: f64, y: f64, z: f64 },
+    Rotator { pitch: f64, yaw: f64, roll: f64 },
+    Quat { x: f64, y: f64, z: f64, w: f64 },
+    Color { r: f64, g: f64, b: f64, a: f64 },
+}
+
+// A gate's input: no wire and no property, or a value.
+pub enum Operand {
+    Unwired,
+    Known(Value),
+}
+
+// What a gate gives: no value, or one.
+pub enum OptionValue {
+    None,
+    Some(Value),
+}
+
+pub fn variant_of(v: Value) -> u8
+    ensures { λ r. ⌜ r ≡ variantOf v ⌝ }
+{
+    match v {
+        Value::Int(_) => variant::INT,
+        Value::Float(_) => variant::FLOAT,
+        Value::Bool(_) => variant::BOOL,
+        Value::Vector { x: _, y: _, z: _ } => variant::VECTOR,
+        Value::Rotator {
+            pitch: _,
+            yaw: _,
+            roll: _,
+        } => variant::ROTATOR,
+        Value::Quat {
+            x: _,
+            y: _,
+            z: _,
+            w: _,
+        } => variant::QUAT,
+        Value::Color {
+            r: _,
+            g: _,
+            b: _,
+            a: _,
+        } => variant::COLOR,
+    }
+}
+
+// The variant that a row of the table names for an input.
+pub fn in_variant(a: Operand) -> u8
+    ensures { λ r. ⌜ r ≡ inVariant a ⌝ }
+{
+    match a {
+        Operand::Unwired => variant::UNWIRED,
+        Operand::Known(v) => variant_of(v),
+    }
+}
