@@ -1,0 +1,53 @@
+-- `arithmetic::refused_op` meets its contract.
+use borrow.Author.Needs.{needs}
+use Rattle.arithmetic.proofs.refused_op.Statement.{statement}
+use Rattle.arithmetic.proofs.refused_op.Tie as tie
+
+enum-told : tie.Need-enum-told
+enum-told c = search needs
+
+enum-told-2 : tie.Need-enum-told-2
+enum-told-2 c = search needs
+
+enum-told-3 : tie.Need-enum-told-3
+enum-told-3 c = search needs
+
+enum-told-4 : tie.Need-enum-told-4
+enum-told-4 c = search needs
+
+enum-told-5 : tie.Need-enum-told-5
+enum-told-5 c = search needs
+
+mixed-signs-requires : tie.Need-mixed-signs-requires
+mixed-signs-requires c κs = search needs
+
+returns : tie.Need-returns
+returns c = search needs
+
+returns-2 : tie.Need-returns-2
+returns-2 c = search needs
+
+returns-3 : tie.Need-returns-3
+returns-3 c = search needs
+
+returns-4 : tie.Need-returns-4
+returns-4 c = search needs
+
+returns-5 : tie.Need-returns-5
+returns-5 c = rw (c .before .enum-told5 .given .1) (c .mixed-signs .ensures)
+
+pub refused-op-spec : {M : Type 1} → statement M
+refused-op-spec =
+    tie.close
+    (tie.spec
+    enum-told
+    enum-told-2
+    enum-told-3
+    enum-told-4
+    enum-told-5
+    mixed-signs-requires
+    returns
+    returns-2
+    returns-3
+    returns-4
+    returns-5)

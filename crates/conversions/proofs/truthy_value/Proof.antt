@@ -1,0 +1,73 @@
+-- `conversions::truthy_value` meets its contract.
+use borrow.Author.Needs.{needs}
+use Rattle.conversions.proofs.truthy_value.Statement.{statement}
+use Rattle.conversions.proofs.truthy_value.Tie as tie
+
+enum-known-v : tie.Need-enum-known-v
+enum-known-v c = search needs
+
+is-zero-requires : tie.Need-is-zero-requires
+is-zero-requires c κs = search needs
+
+enum-known-v-2 : tie.Need-enum-known-v-2
+enum-known-v-2 c = search needs
+
+sanitize-requires : tie.Need-sanitize-requires
+sanitize-requires c κs = search needs
+
+enum-known-v-3 : tie.Need-enum-known-v-3
+enum-known-v-3 c = search needs
+
+enum-told : tie.Need-enum-told
+enum-told c = search needs
+
+enum-told-2 : tie.Need-enum-told-2
+enum-told-2 c = search needs
+
+enum-told-3 : tie.Need-enum-told-3
+enum-told-3 c = search needs
+
+enum-told-4 : tie.Need-enum-told-4
+enum-told-4 c = search needs
+
+returns : tie.Need-returns
+returns c = search (needs, c .before .before .v .given .1, c .is-zero .ensures)
+
+returns-2 : tie.Need-returns-2
+returns-2 c = search (needs, c .before .before .v2 .given .1, c .sanitize .ensures)
+
+returns-3 : tie.Need-returns-3
+returns-3 c = search needs
+
+returns-4 : tie.Need-returns-4
+returns-4 c = search needs
+
+returns-5 : tie.Need-returns-5
+returns-5 c = search needs
+
+returns-6 : tie.Need-returns-6
+returns-6 c = search needs
+
+returns-7 : tie.Need-returns-7
+returns-7 c = search needs
+
+pub truthy-value-spec : {M : Type 1} → statement M
+truthy-value-spec =
+    tie.close
+    (tie.spec
+    enum-known-v
+    is-zero-requires
+    enum-known-v-2
+    sanitize-requires
+    enum-known-v-3
+    enum-told
+    enum-told-2
+    enum-told-3
+    enum-told-4
+    returns
+    returns-2
+    returns-3
+    returns-4
+    returns-5
+    returns-6
+    returns-7)

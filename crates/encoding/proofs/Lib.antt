@@ -1,0 +1,3 @@
+pub mod Splices
+pub mod Sizes
+pub mod ReadBack

@@ -1,0 +1,20 @@
+-- `encoding::numbers::write_byte` meets its contract.
+use borrow.Author.Needs.{needs}
+use Rattle.encoding.proofs.Splices.{stored-1}
+use Rattle.encoding.proofs.numbers.write_byte.Statement.{statement}
+use Rattle.encoding.proofs.numbers.write_byte.Tie as tie
+
+slice-write-out : tie.Need-slice-write-out
+slice-write-out c = search needs
+
+add-result : tie.Need-add-result
+add-result c = search needs
+
+same-length : tie.Need-same-length
+same-length c = search needs
+
+returns : tie.Need-returns
+returns c = stored-1 _ _ _ (search needs)
+
+pub write-byte-spec : {M : Type 1} → statement M
+write-byte-spec = tie.close (tie.spec slice-write-out add-result same-length returns)

@@ -1,0 +1,57 @@
+-- `extended::min` meets its contract.
+use Rattle.extended.proofs.Laws.{gate}
+use Rattle.extended.proofs.min.Statement.{statement}
+use Rattle.extended.proofs.min.Tie as tie
+
+as-int-requires : tie.Need-as-int-requires
+as-int-requires c κs = tt
+
+enum-known-m : tie.Need-enum-known-m
+enum-known-m c = c .match .keys1
+
+enum-told : tie.Need-enum-told
+enum-told c = c .match .keys2
+
+min-floats-requires : tie.Need-min-floats-requires
+min-floats-requires c κs = tt
+
+returns : tie.Need-returns
+returns c = search gate
+
+as-int-requires-2 : tie.Need-as-int-requires-2
+as-int-requires-2 c κs = tt
+
+enum-known-n : tie.Need-enum-known-n
+enum-known-n c = c .match2 .keys1
+
+enum-told-2 : tie.Need-enum-told-2
+enum-told-2 c = c .match2 .keys2
+
+min-floats-requires-2 : tie.Need-min-floats-requires-2
+min-floats-requires-2 c κs = tt
+
+returns-2 : tie.Need-returns-2
+returns-2 c = search gate
+
+min-requires : tie.Need-min-requires
+min-requires c κs = tt
+
+returns-3 : tie.Need-returns-3
+returns-3 c = search gate
+
+pub min-spec : {M : Type 1} → statement M
+min-spec =
+    tie.close
+    (tie.spec
+    as-int-requires
+    enum-known-m
+    enum-told
+    min-floats-requires
+    returns
+    as-int-requires-2
+    enum-known-n
+    enum-told-2
+    min-floats-requires-2
+    returns-2
+    min-requires
+    returns-3)

@@ -1,0 +1,40 @@
+-- `gate_cases::write_given` meets its contract.
+use native.Mathlib.Omega.{arith}
+use borrow.Author.Needs.{needs}
+use Rattle.encoding.proofs.Splices.{written-length}
+use Rattle.gate_cases.proofs.Sizes.{value-length}
+use Rattle.gate_cases.proofs.write_given.Statement.{statement}
+use Rattle.gate_cases.proofs.write_given.Tie as tie
+
+enum-told : tie.Need-enum-told
+enum-told c = search needs
+
+enum-known-given : tie.Need-enum-known-given
+enum-known-given c = search needs
+
+variant-of-requires : tie.Need-variant-of-requires
+variant-of-requires c κs = search needs
+
+write-byte-requires : tie.Need-write-byte-requires
+write-byte-requires c κs = search needs
+
+write-bytes-requires : tie.Need-write-bytes-requires
+write-bytes-requires c κs = omega (arith, written-length (c .before .write-byte .ensures) (omega arith), value-length (c .before .before .before .before .before .given .given .0 .0))
+
+returns : tie.Need-returns
+returns c = search needs
+
+returns-2 : tie.Need-returns-2
+returns-2 c = rw (c .before .before .before .before .before .before .given .given .1, c .write-bytes .ensures .wrote, c .before .before .write-byte .ensures .wrote, c .before .before .before .variant-of .ensures, c .before .before .before .before .before .before .before .before .pre)
+
+pub write-given-spec : {M : Type 1} → statement M
+write-given-spec =
+    tie.close
+    (tie.spec
+    enum-told
+    enum-known-given
+    variant-of-requires
+    write-byte-requires
+    write-bytes-requires
+    returns
+    returns-2)

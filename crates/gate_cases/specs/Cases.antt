@@ -1,0 +1,29 @@
+-- Gate cases as bytes, for runs beside the Rust: a class and three operands in, what the gate gives out. An operand has 33 bytes: its
+-- variant, then its value as in a record, filled with zeros.
+use Prim.Native.Nat.{ℕ, zero, suc, _+_}
+use mathlib.Core.Bool.{cond, _&&_}
+use mathlib.Core.List.{List, [], _∷_}
+use lib.Dec.{ltb, leb}
+use Rattle.value.specs.declared.Operand.{Operand}
+use Rattle.value.specs.declared.OptionValue.{OptionValue}
+use Rattle.value.specs.Variants.{variantOf}
+use Rattle.encoding.specs.Numbers.{byte, splice}
+use Rattle.encoding.specs.Values.{valueAt, valueBytes}
+use Rattle.semantics.specs.Eval.{evalOf}
+
+-- the operand at an offset; variants 1 to 7 are those of the record kinds 03 to 09
+unfoldable pub operandAt : List ℕ → ℕ → Operand
+operandAt s at =
+    cond (ltb 0 (byte s at) && leb (byte s at) 7) (Operand.Known (valueAt (byte s at + 2) s (at + 1))) Operand.Unwired
+
+abbrev pub givenOf : List ℕ → OptionValue
+givenOf s = evalOf (byte s 0) (operandAt s 1) (operandAt s 34) (operandAt s 67)
+
+unfoldable pub zeros : ℕ → List ℕ
+zeros zero = []
+zeros (suc n) = 0 ∷ zeros n
+
+-- the 33 bytes of what a gate gives, all zeros for None
+abbrev pub answerBytes : OptionValue → List ℕ
+answerBytes OptionValue.None = zeros 33
+answerBytes (OptionValue.Some v) = splice (splice (zeros 33) 0 (variantOf v ∷ [])) 1 (valueBytes v)

@@ -1,0 +1,51 @@
+// Gate cases as bytes, for runs beside the Rust.
+ghost use mathlib.Core.Path.{_≡_};
+ghost use Prim.Native.Nat.{_+_, _≤_};
+ghost use lib.ListN.{length};
+ghost use Rattle.gate_cases.specs.Cases.{operandAt, givenOf, zeros, answerBytes};
+use encoding::numbers;
+use encoding::values;
+use value::Operand;
+use value::OptionValue;
+
+// The operand at an offset.
+fn operand_at(case: &[u8], at: usize) -> Operand
+    requires { ⌜ at + 33 ≤ length (now case) ⌝ }
+    ensures { λ r. ⌜ r ≡ operandAt (now (case .entry)) at ⌝ }
+{
+    let variant = case[at];
+    if variant == 0 {
+        return Operand::Unwired;
+    }
+    if 7 < variant {
+        return Operand::Unwired;
+    }
+    Operand::Known(values::read_value(variant + 2, case, at + 1))
+}
+
+// What a gate gives, into an answer of zeros.
+fn write_given(answer: &mut [u8; 33], given: OptionValue)
+    requires { ⌜ now answer ≡ zeros 33 ⌝ }
+    ensures { λ _. ⌜ now (answer .exit) ≡ answerBytes given ⌝ }
+{
+    match given {
+        OptionValue::None => {}
+        OptionValue::Some(v) => {
+            numbers::write_byte(answer, 0, value::variant_of(v));
+            values::write_bytes(answer, 1, v);
+        }
+    }
+}
+
+// What the gate of a case gives.
+#[no_mangle]
+pub extern "C" fn mezburiko_gate_case(case: &[u8; 100], answer: &mut [u8; 33])
+    ensures { λ _. ⌜ now (answer .exit) ≡ answerBytes (givenOf (now (case .entry))) ⌝ }
+{
+    *answer = [0u8; 33];
+    let class = case[0];
+    let a = operand_at(case, 1);
+    let b = operand_at(case, 34);
+    let c = operand_at(case, 67);
+    write_given(answer, semantics::eval_in(class, a, b, c));
+}

@@ -1,0 +1,72 @@
+-- The first `no` of a list of questions, and what a record that answers each with yes tells.
+use Prim.Native.Nat.{ℕ, _+_, _≤_}
+use native.Mathlib.Omega.{arith}
+use mathlib.Core.Path.{_≡_, refl, ap}
+use mathlib.Core.Bool.{Bool, true, false, cond, _&&_}
+use mathlib.Core.List.{List, [], _∷_}
+use lib.ListN.{length}
+use lib.Dec.{ltb}
+use borrow.Author.Tests.{leb-true, ltb-true}
+use Rattle.encoding.specs.Numbers.{byte}
+use Rattle.graph.specs.Graph.{Graph, countsOf}
+use Rattle.graph.specs.Layout.{roleAt, sizeAt}
+use Rattle.graph.specs.Questions.{Context, Question, questions, firstNo, isKind, isListed, hasNodes, isFirst, hasRoom}
+use Rattle.graph.specs.Decode.{refusalAt}
+use Rattle.graph.proofs.Roles.{and-left, and-right}
+
+module _ (q : Question) (qs : List Question) (x : Context) where
+  pub stops : q .holds x ≡ false → firstNo (q ∷ qs) x ≡ q .number
+  unfolding firstNo
+  stops e = ap (λ (b : Bool). cond b (firstNo qs x) (q .number)) e
+
+  pub passes : q .holds x ≡ true → firstNo (q ∷ qs) x ≡ firstNo qs x
+  unfolding firstNo
+  passes e = ap (λ (b : Bool). cond b (firstNo qs x) (q .number)) e
+
+pub none-left : (x : Context) → firstNo [] x ≡ 0
+unfolding firstNo
+none-left x = refl
+
+-- each question is answered with yes
+abbrev Holds : List Question → Context → Type 0
+Holds [] x = Unit {0}
+Holds (q ∷ qs) x = (q .holds x ≡ true) × Holds qs x
+
+abbrev numbered : List Question → Bool
+numbered [] = true
+numbered (q ∷ qs) = ltb 0 (q .number) && numbered qs
+
+peel : (b : Bool) (x n : ℕ) → ltb 0 n ≡ true → cond b x n ≡ 0 → (b ≡ true) × (x ≡ 0)
+peel true x n h e = (refl, e)
+peel false x n h e = absurd (omega (arith, ltb-true 0 n h))
+
+hold : (qs : List Question) (x : Context) → numbered qs ≡ true → firstNo qs x ≡ 0 → Holds qs x
+unfolding firstNo
+hold [] x n e = tt
+hold (q ∷ qs) x n e =
+    let p = peel (q .holds x) (firstNo qs x) (q .number) (and-left (ltb 0 (q .number)) (numbered qs) n) e in
+    (p .0, hold qs x (and-right (ltb 0 (q .number)) (numbered qs) n) (p .1))
+
+-- a record that answers each question with yes
+pub record Passed (last : ℕ) (g : Graph) (s : List ℕ) (at : ℕ) : Type 0 where
+  pub kind : isKind (roleAt s at) ≡ true
+  pub whole : at + sizeAt s at ≤ length s
+  pub listed : isListed (roleAt s at) s at ≡ true
+  pub rises : last ≤ byte s at
+  pub there : hasNodes (length (g .nodes)) (roleAt s at) s at ≡ true
+  pub new : isFirst g (roleAt s at) s at ≡ true
+  pub fits : hasRoom (countsOf g) (roleAt s at) ≡ true
+
+pub passed : (last : ℕ) (g : Graph) (s : List ℕ) (at : ℕ) → refusalAt last g s at ≡ 0 → Passed last g s at
+unfolding refusalAt
+passed last g s at e =
+    let h = hold questions (record { input = s; at = at; last = last; graph = g }) refl e in
+    record {
+      kind = h .0;
+      whole = leb-true _ _ (h .1 .0);
+      listed = h .1 .1 .0;
+      rises = leb-true _ _ (h .1 .1 .1 .0);
+      there = h .1 .1 .1 .1 .0;
+      new = h .1 .1 .1 .1 .1 .0;
+      fits = h .1 .1 .1 .1 .1 .1 .0;
+    }

@@ -1,0 +1,17 @@
+pub mod Maps
+pub mod Lists
+pub mod Offers
+pub mod Order
+pub mod QueueLength
+pub mod Turns
+pub mod Finite
+pub mod CleanWires
+pub mod TargetCycles
+pub mod SourceCycles
+pub mod Endless
+pub mod Decoded
+pub mod Refusals
+pub mod Demand3
+pub mod TargetCounts
+pub mod Arrays
+pub mod Examples

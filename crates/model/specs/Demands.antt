@@ -1,0 +1,90 @@
+-- Demands 1 and 3 of an input: when it is refused and with what, and what holds of one that is accepted.
+use Prim.Native.Nat.{ℕ, _+_, _<_, _≤_}
+use mathlib.Core.Path.{_≡_}
+use mathlib.Core.Bool.{true}
+use mathlib.Core.Option.{Option, none, some}
+use mathlib.Core.List.{List, []}
+use mathlib.Core.Logic.{_⊎_, _↔_}
+use lib.ListN.{length, getD}
+use Rattle.ir.specs.Limits.{maxWires}
+use Rattle.ir.specs.declared.Wire.{Wire}
+use Rattle.value.specs.declared.Value.{Value}
+use Rattle.semantics.specs.Finite.{finiteValue}
+use Rattle.graph.specs.Graph.{Graph}
+use Rattle.records.specs.Access.{noWire}
+use Rattle.graph.specs.Decode.{accepted, refused, decode}
+use Rattle.model.specs.Maps.{Map, All}
+use Rattle.model.specs.Inputs.{size}
+use Rattle.model.specs.Offer.{PlanAction, BecomeLiteral, ShortCircuit, Truncate, literals}
+use Rattle.model.specs.Trial.{empty, trials, Settled}
+use Rattle.model.specs.Worklist.{Work, worklist}
+use Rattle.model.specs.Rewrite.{rewriteWires, Endless}
+use Rattle.model.specs.Answer.{answer}
+use Rattle.model.specs.Outcome.{wireOffset}
+
+-- the worklist of a graph whose Literals are what they are by themselves
+abbrev pub foldOf : Graph → Work
+foldOf g = worklist (literals g) g
+
+abbrev pub planOf : Graph → Map PlanAction
+planOf g = foldOf g .state .plan
+
+-- ---- refusals
+
+-- wire i is the first whose rewriting does not end
+pub record FirstEndless (p : Map PlanAction) (ws : List Wire) (i : ℕ) : Type 0 where
+  pub within : i < length ws
+  pub endless : Endless p (getD ws i noWire)
+  pub first : (j : ℕ) → j < i → Endless p (getD ws j noWire) → ⊥
+
+-- the number and the place with which an input is refused, where the buffer has `room` bytes. 11 is never given
+pub data Refused (input : List ℕ) (room : ℕ) : ℕ → ℕ → Type 0 where
+  -- 1 to 8: the first question that is answered with no
+  decoding : {n p : ℕ} → decode input ≡ refused n p → Refused input room n p
+  -- 9: a wire's rewriting does not end
+  rewriting : {g : Graph} {i : ℕ} → decode input ≡ accepted g → FirstEndless (planOf g) (g .wires) i → Refused input room 9 (wireOffset g i)
+  -- 10: every wire's does, and there are too many rewritten wires, or the answer is too long
+  writing : {g : Graph} {ws : List Wire} → decode input ≡ accepted g → rewriteWires (planOf g) (size g) (g .wires) ≡ some ws →
+      (maxWires < length ws) ⊎ (room < length (answer (size g) (foldOf g .state) ws)) → Refused input room 10 0
+
+-- ---- demand 3
+
+-- "no rewritten wire touches a removed node or enters a node that was made literal"
+abbrev pub Removed : Option PlanAction → Type 0
+Removed none = ⊥
+Removed (some (BecomeLiteral v)) = ⊥
+Removed (some (ShortCircuit s)) = Unit {0}
+Removed (some (Truncate ts)) = Unit {0}
+
+abbrev pub MadeLiteral : Option PlanAction → Type 0
+MadeLiteral none = ⊥
+MadeLiteral (some (BecomeLiteral v)) = Unit {0}
+MadeLiteral (some (ShortCircuit s)) = ⊥
+MadeLiteral (some (Truncate ts)) = ⊥
+
+pub record Clean (p : Map PlanAction) (w : Wire) : Type 0 where
+  pub source-stays : Removed (p (w .source .«node_id»)) → ⊥
+  pub target-stays : Removed (p (w .target .«node_id»)) → ⊥
+  pub target-free : MadeLiteral (p (w .target .«node_id»)) → ⊥
+
+-- of an input that is accepted with the answer a and so many pops
+pub record Demand3 (input a : List ℕ) (pops : ℕ) : Type 0 where
+  pub graph : Graph
+  pub wires : List Wire
+  -- "For every accepted graph"
+  pub read : decode input ≡ accepted graph
+  -- "and every list of its nodes, in any order and with any repeats ..: the known values and the plan after the list are, bit for bit, those of our worklist exactly when no trial
+  -- of any node would then add a known value or a plan"
+  pub order : (ns : List ℕ) → (trials (literals graph) graph empty ns ≡ foldOf graph .state) ↔ Settled (literals graph) graph (trials (literals graph) graph empty ns)
+  -- "Our answer is, byte for byte, what document 01 writes for that graph and the worklist's known values and plan"
+  pub rewrote : rewriteWires (planOf graph) (size graph) (graph .wires) ≡ some wires
+  pub bytes : a ≡ answer (size graph) (foldOf graph .state) wires
+  -- "its pops are those of the waiting-line rule", "until none waits",
+  pub popped : pops ≡ foldOf graph .pops
+  pub ended : foldOf graph .queue ≡ []
+  -- "and at most nodes plus wires"
+  pub few : pops ≤ size graph + length (graph .wires)
+  -- "each planned number is finite"
+  pub finite : (n : ℕ) (v : Value) → planOf graph n ≡ some (BecomeLiteral v) → finiteValue v ≡ true
+  -- "and no rewritten wire touches a removed node or enters a node that was made literal"
+  pub clean : All (Clean (planOf graph)) wires

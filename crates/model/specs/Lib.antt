@@ -1,0 +1,11 @@
+pub mod Maps
+pub mod Inputs
+pub mod Offer
+pub mod Trial
+pub mod Worklist
+pub mod Rewrite
+pub mod Answer
+pub mod Outcome
+pub mod Demands
+pub mod TargetCounts
+pub mod Arrays

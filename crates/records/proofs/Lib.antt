@@ -1,0 +1,4 @@
+pub mod Scanned
+pub mod Induct
+pub mod Runs
+pub mod Laid

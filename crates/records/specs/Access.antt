@@ -1,0 +1,53 @@
+-- The graph's lists as runs of records: what stands where in an accepted input.
+use Prim.Native.Nat.{ℕ, zero, suc, _+_, _-_, _*_, _/_}
+use mathlib.Core.List.{List, []}
+use mathlib.Core.Path.{_≡_}
+use lib.ListN.{length}
+use Rattle.ir.specs.declared.Wire.{Wire}
+use Rattle.encoding.specs.Wires.{wireAt}
+use Rattle.graph.specs.Graph.{rowAt, snoc}
+use Rattle.graph.specs.Decode.{decode}
+use Rattle.graph.specs.Refusals.{counts, reported}
+use Rattle.graph.specs.declared.Counts.{Counts}
+use Rattle.graph.specs.declared.Node.{Node}
+use Rattle.graph.specs.declared.Row.{Row}
+
+-- what stands past the end of a list
+abbrev pub noNode : Node
+noNode = record { class = 0; flags = 0 }
+
+abbrev pub noWire : Wire
+noWire = record { source = record { «node_id» = 0; port = 0 }; target = record { «node_id» = 0; port = 0 } }
+
+abbrev pub noRow : Row
+noRow = record { class = 0; first = 0; second = 0; third = 0 }
+
+-- the first n values of a function
+unfoldable pub tabulate {ℓ} : {A : Type ℓ} → ℕ → (ℕ → A) → List A
+tabulate zero f = []
+tabulate (suc n) f = snoc (tabulate n f) (f n)
+
+-- the wires that a run of wire records says, of 7 bytes each
+unfoldable pub wiresOf : List ℕ → List Wire
+wiresOf r = tabulate (length r / 7) (λ j. wireAt r (7 * j))
+
+-- the rows that a run of row records says, of 5 bytes each
+unfoldable pub rowsOf : List ℕ → List Row
+rowsOf r = tabulate (length r / 5) (λ k. rowAt r (5 * k))
+
+-- the input is accepted, with these counts
+abbrev pub Accepts : List ℕ → Counts → Type 0
+Accepts s c = counts c ≡ reported (decode s)
+
+-- where the wires, the properties, the rows and the annihilators of an accepted input start; n is its length
+abbrev pub wiresOffset : Counts → ℕ
+wiresOffset c = 3 * c .nodes
+
+abbrev pub propertiesOffset : Counts → ℕ
+propertiesOffset c = wiresOffset c + 7 * c .wires
+
+abbrev pub annihilatorsOffset : ℕ → Counts → ℕ
+annihilatorsOffset n c = n - 2 * c .annihilators
+
+abbrev pub rowsOffset : ℕ → Counts → ℕ
+rowsOffset n c = annihilatorsOffset n c - 5 * c .rows

@@ -1,0 +1,25 @@
+-- Document 01's starred cases hold of the gates' rules.
+use mathlib.Core.Path.{_≡_, refl}
+use mathlib.Core.List.{List, [], _∷_}
+use lib.Ieee.{ofBits, add, sub, mul, div, rem, round, ofInt, lt, ne}
+use Rattle.ieee.specs.Finite.{finiteOf, sanitizeOf}
+use Rattle.ieee.specs.Integral.{roundToIntegral}
+use Rattle.whole.specs.Compare.{eqZ}
+use Rattle.whole.specs.Checked.{divisionOverflows, divided}
+use Rattle.whole.specs.Convert.{intAsF64}
+use Rattle.whole.specs.Bits.{shiftInRange, shifted, bitSum}
+use Rattle.arithmetic.specs.Arithmetic.{floatMath, mathOf}
+use Rattle.extended.specs.Extended.{givenFinite, onFloat}
+use Rattle.bitwise.specs.Bitwise.{onInt}
+use Rattle.value.specs.declared.Operand.{Operand}
+use Rattle.semantics.specs.Eval.{evalOf}
+use Rattle.semantics.specs.Starred.{Case, starred}
+
+-- each case of a list
+abbrev pub Hold : List Case → Type 0
+Hold [] = Unit {0}
+Hold (c ∷ cs) = (evalOf (c .class) (c .first) (c .second) Operand.Unwired ≡ c .gives) × Hold cs
+
+pub starred-hold : Hold starred
+unfolding ofBits add sub mul div rem round ofInt lt ne finiteOf sanitizeOf roundToIntegral eqZ divisionOverflows divided intAsF64 shiftInRange shifted bitSum floatMath mathOf givenFinite onFloat onInt
+starred-hold = (refl, (refl, (refl, (refl, (refl, (refl, (refl, (refl, (refl, (refl, (refl, tt)))))))))))

@@ -1,0 +1,56 @@
+-- Document 01's starred cases, by class number: operands and what the gate gives.
+use Prim.Native.Nat.{ℕ, _-_, _^_}
+use mathlib.Core.List.{List, [], _∷_}
+use lib.IntN.{ℤ, pos, negℤ}
+use lib.Ieee.{binary64, ofBits}
+use Rattle.value.specs.declared.Value.{Value}
+use Rattle.value.specs.declared.Operand.{Operand}
+use Rattle.value.specs.declared.OptionValue.{OptionValue}
+
+-- an Int, and a float by its IEEE 754 bits
+abbrev int : ℤ → Value
+int n = Value.Int n
+
+abbrev float : ℕ → Value
+float bits = Value.Float (ofBits binary64 bits)
+
+pub record Case : Type 0 where
+  pub class : ℕ
+  pub first : Operand
+  pub second : Operand
+  pub gives : OptionValue
+
+abbrev two : ℕ → Value → Value → OptionValue → Case
+two n a b r = record { class = n; first = Operand.Known a; second = Operand.Known b; gives = r }
+
+abbrev one : ℕ → Value → OptionValue → Case
+one n a r = record { class = n; first = Operand.Known a; second = Operand.Unwired; gives = r }
+
+abbrev smallest : ℤ
+smallest = negℤ (pos (2 ^ 63))
+
+abbrev pub starred : List Case
+starred =
+    -- Divide Int 7 by 0: Int 0
+    two 21 (int (pos 7)) (int (pos 0)) (OptionValue.Some (int (pos 0)))
+    -- Divide smallest Int by -1: None
+    ∷ two 21 (int smallest) (int (negℤ (pos 1))) OptionValue.None
+    -- Int 2^53 + Float 1: Float 2^53
+    ∷ two 18 (int (pos 9007199254740992)) (float 0x3ff0_0000_0000_0000) (OptionValue.Some (float 0x4340_0000_0000_0000))
+    -- Int 2^53+1 + Float 1: None
+    ∷ two 18 (int (pos 9007199254740993)) (float 0x3ff0_0000_0000_0000) OptionValue.None
+    -- Modulo -7.0, 3.0: None
+    ∷ two 22 (float 0xc01c_0000_0000_0000) (float 0x4008_0000_0000_0000) OptionValue.None
+    -- Modulo -6.0, 3.0: -0.0
+    ∷ two 22 (float 0xc018_0000_0000_0000) (float 0x4008_0000_0000_0000) (OptionValue.Some (float 0x8000_0000_0000_0000))
+    -- ModuloFloored -7, 3: 2.0
+    ∷ two 29 (int (negℤ (pos 7))) (int (pos 3)) (OptionValue.Some (float 0x4000_0000_0000_0000))
+    -- Left 1 by 63: smallest Int
+    ∷ two 39 (int (pos 1)) (int (pos 63)) (OptionValue.Some (int smallest))
+    -- Left by 64: None
+    ∷ two 39 (int (pos 1)) (int (pos 64)) OptionValue.None
+    -- BitCount -1: 64
+    ∷ one 41 (int (negℤ (pos 1))) (OptionValue.Some (int (pos 64)))
+    -- Round 2.5: 3.0
+    ∷ one 30 (float 0x4004_0000_0000_0000) (OptionValue.Some (float 0x4008_0000_0000_0000))
+    ∷ []

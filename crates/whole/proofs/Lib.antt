@@ -1,0 +1,4 @@
+pub mod Laws
+pub mod Convert
+pub mod Checked
+pub mod Bits

@@ -1,0 +1,4 @@
+pub mod Convert
+pub mod Compare
+pub mod Checked
+pub mod Bits
