@@ -1,7 +1,7 @@
-# make: fold an example graph. make test: the gate.
+# make: prove and build the program, and fold an example graph. make test: the gate.
 .PHONY: all test
 all:
-	@compare/oracle/build
+	@rt check fold
 	@compare/example
 
 test:

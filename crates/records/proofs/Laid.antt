@@ -14,20 +14,15 @@ use Rattle.encoding.specs.Numbers.{byte, u16At}
 use Rattle.encoding.specs.Wires.{wireAt}
 use Rattle.graph.specs.Graph.{Graph, empty, nodeAt, rowAt, annihilatorAt, add, snoc, countsOf}
 use Rattle.graph.specs.Layout.{roleAt, sizeAt}
-use Rattle.graph.specs.Questions.{isKind, hasNodes}
+use Rattle.graph.specs.Questions.{isKind, isWirePort, isListed, hasNodes}
 use Rattle.graph.specs.Decode.{Verdict, accepted, refused, decode, graphOf}
 use Rattle.graph.specs.Refusals.{counts, refusal, reported}
-use Rattle.records.specs.Access.{noNode, noWire, noRow, wiresOf, rowsOf, Accepts, wiresOffset, rowsOffset}
+use Rattle.records.specs.Access.{noNode, noWire, noRow, wiresOf, rowsOf, Named, Bounded, Accepts, wiresOffset, rowsOffset}
 use Rattle.graph.specs.declared.Counts.{Counts}
 use Rattle.graph.proofs.Roles.{and-left, and-right, node-kind, wire-kind, property-kind, row-kind, annihilator-kind}
 use Rattle.graph.proofs.Asked.{Passed}
 use Rattle.records.proofs.Induct.{induct}
 use Rattle.records.proofs.Runs.{snoc-at, wires-run, rows-run}
-
--- both nodes of a wire are among n
-pub record Named (n : ℕ) (w : Wire) : Type 0 where
-  pub source : w .source .«node_id» < n
-  pub target : w .target .«node_id» < n
 
 -- what the records before an offset have laid down, `last` being the kind of the last one
 pub record Laid (s : List ℕ) (last : ℕ) (g : Graph) (at : ℕ) : Type 0 where
@@ -78,10 +73,19 @@ module _ (s : List ℕ) (last : ℕ) (g : Graph) (at : ℕ) (p : Passed last g s
       let h : at ≡ 3 * length (g .nodes) + 7 * length (g .wires) = l .here (omega (arith, p .rises)) in
       let n : length (snoc (g .wires) (wireAt s at)) ≡ length (g .wires) + 1 = length-append (g .wires) (wireAt s at ∷ []) in
       let t : hasNodes (length (g .nodes)) WireRole s at ≡ true = rw e at (p .there) in
+      let q : isListed WireRole s at ≡ true = rw e at (p .listed) in
+      let named : Named (length (g .nodes)) (wireAt s at) =
+      record {
+        source = ltb-true (u16At s (at + 1)) _ (and-left (ltb (u16At s (at + 1)) (length (g .nodes))) _ t);
+        target = ltb-true (u16At s (at + 4)) _ (and-right (ltb (u16At s (at + 1)) (length (g .nodes))) _ t);
+        source-port = ltb-true (byte s (at + 3)) 10 (and-left (isWirePort (byte s (at + 3))) _ q);
+        target-port = ltb-true (byte s (at + 6)) 10 (and-right (isWirePort (byte s (at + 3))) _ q);
+      }
+      in
       record {
         nodes = l .nodes;
         wires = snoc-at (g .wires) (wireAt s at) noWire (λ j x. x ≡ wireAt s (3 * length (g .nodes) + 7 * j)) (l .wires) (ap (wireAt s) h);
-        named = snoc-at (g .wires) (wireAt s at) noWire (λ j x. Named (length (g .nodes)) x) (l .named) (record { source = ltb-true (u16At s (at + 1)) _ (and-left (ltb (u16At s (at + 1)) (length (g .nodes))) _ t); target = ltb-true (u16At s (at + 4)) _ (and-right (ltb (u16At s (at + 1)) (length (g .nodes))) _ t) });
+        named = snoc-at (g .wires) (wireAt s at) noWire (λ j x. Named (length (g .nodes)) x) (l .named) named;
         few-nodes = l .few-nodes;
         few-wires = omega (arith, ltb-true (length (g .wires)) 4096 (rw e at (p .fits)));
         no-wires = λ i. absurd (omega (arith, k .same));
@@ -225,15 +229,22 @@ module _ (s : List ℕ) where
   pub node-says : (i : ℕ) → i < length (graphOf s .nodes) → nodeAt s (3 * i) ≡ getD (graphOf s .nodes) i noNode
   node-says i h = sym (final s .laid .nodes i h)
 
-  -- both nodes of each wire are among the nodes
+  -- each wire goes from a port of a node to another
   pub wires-named : (j : ℕ) → j < length (graphOf s .wires) → Named (length (graphOf s .nodes)) (getD (graphOf s .wires) j noWire)
   wires-named j h = final s .laid .named j h
+
+  -- a wire's record stands at its offset
+  pub wire-says : (j : ℕ) → j < length (graphOf s .wires) → wireAt s (3 * length (graphOf s .nodes) + 7 * j) ≡ getD (graphOf s .wires) j noWire
+  wire-says j h = sym (final s .laid .wires j h)
 
   pub few-nodes : length (graphOf s .nodes) ≤ 1024
   few-nodes = final s .laid .few-nodes
 
   pub few-wires : length (graphOf s .wires) ≤ 4096
   few-wires = final s .laid .few-wires
+
+  pub bounded : Bounded (graphOf s .wires) (length (graphOf s .nodes))
+  bounded = record { few-nodes = few-nodes; few-wires = few-wires; named = wires-named }
 
   module _ (c : Counts) (a : Accepts s c) where
     pub counted : c ≡ countsOf (graphOf s)

@@ -1,8 +1,10 @@
 -- The graph's lists as runs of records: what stands where in an accepted input.
-use Prim.Native.Nat.{ℕ, zero, suc, _+_, _-_, _*_, _/_}
+use Prim.Native.Nat.{ℕ, zero, suc, _+_, _-_, _*_, _/_, _≤_, _<_}
 use mathlib.Core.List.{List, []}
 use mathlib.Core.Path.{_≡_}
-use lib.ListN.{length}
+use lib.ListN.{length, getD}
+use Rattle.ir.specs.Limits.{maxNodes, maxWires}
+use Rattle.ir.specs.Ports.{valuePort}
 use Rattle.ir.specs.declared.Wire.{Wire}
 use Rattle.encoding.specs.Wires.{wireAt}
 use Rattle.graph.specs.Graph.{rowAt, snoc}
@@ -34,6 +36,19 @@ wiresOf r = tabulate (length r / 7) (λ j. wireAt r (7 * j))
 -- the rows that a run of row records says, of 5 bytes each
 unfoldable pub rowsOf : List ℕ → List Row
 rowsOf r = tabulate (length r / 5) (λ k. rowAt r (5 * k))
+
+-- a wire goes from a port of one of n nodes to another
+pub record Named (n : ℕ) (w : Wire) : Type 0 where
+  pub source : w .source .«node_id» < n
+  pub target : w .target .«node_id» < n
+  pub source-port : w .source .port < valuePort
+  pub target-port : w .target .port < valuePort
+
+-- what the wires of an accepted graph of n nodes keep to
+pub record Bounded (ws : List Wire) (n : ℕ) : Type 0 where
+  pub few-nodes : n ≤ maxNodes
+  pub few-wires : length ws ≤ maxWires
+  pub named : (i : ℕ) → i < length ws → Named n (getD ws i noWire)
 
 -- the input is accepted, with these counts
 abbrev pub Accepts : List ℕ → Counts → Type 0

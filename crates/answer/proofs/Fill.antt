@@ -1,0 +1,64 @@
+-- Records written one after the other, one for each number below n.
+use Prim.Native.Nat.{ℕ, suc, _+_, _≤_, _<_}
+use native.Mathlib.Omega.{arith}
+use native.Mathlib.Decide.{le-ind}
+use native.Mathlib.Numerals.{add-one}
+use mathlib.Core.Path.{_≡_, refl, sym, ap, _∙_}
+use mathlib.Core.List.{List, [], _∷_, _++_, append-assoc, append-nil}
+use lib.ListN.{length, length-append, drop}
+use lib.Seq.{take-append-seam, take-at}
+use Rattle.encoding.specs.Numbers.{splice, Written}
+use Rattle.encoding.proofs.Splices.{written-length, written-more, stored}
+use Rattle.model.specs.Maps.{upTo}
+use Rattle.model.specs.Answer.{each}
+
+pub each-append : {A : Type 0} (f : A → List ℕ) (xs ys : List A) → each f (xs ++ ys) ≡ each f xs ++ each f ys
+unfolding each
+each-append f [] ys = refl
+each-append f (x ∷ xs) ys = ap (λ (l : List ℕ). f x ++ l) (each-append f xs ys) ∙ sym (append-assoc (f x) (each f xs) (each f ys))
+
+pub each-up : (f : ℕ → List ℕ) (i : ℕ) → each f (upTo (suc i)) ≡ each f (upTo i) ++ f i
+unfolding upTo
+each-up f i = each-append f (upTo i) (i ∷ []) ∙ ap (λ (l : List ℕ). each f (upTo i) ++ l) (unfold each in append-nil (f i))
+
+pub each-size : (f : ℕ → List ℕ) (i : ℕ) → length (each f (upTo (i + 1))) ≡ length (each f (upTo i)) + length (f i)
+each-size f i = ap (λ (k : ℕ). length (each f (upTo k))) (add-one i) ∙ (ap length (each-up f i) ∙ length-append (each f (upTo i)) (f i))
+
+up-less : (f : ℕ → List ℕ) (i n : ℕ) → i ≤ n → length (each f (upTo i)) ≤ length (each f (upTo n))
+up-less f i n h = le-ind (λ m. length (each f (upTo i)) ≤ length (each f (upTo m))) (omega arith) (λ m l ih. omega (arith, ih, ap length (each-up f m), length-append (each f (upTo m)) (f m))) n h
+
+-- the records of the first i are written, of n that fit
+pub record Filling (f : ℕ → List ℕ) (n : ℕ) (l m : List ℕ) (from at i : ℕ) : Type 0 where
+  pub within : i ≤ n
+  pub room : from + length (each f (upTo n)) ≤ length l
+  pub wrote : Written (each f (upTo i)) l m from at
+
+pub written-none : (l : List ℕ) (at : ℕ) → at ≤ length l → Written [] l l at at
+written-none l at h = let w = stored l at [] (omega arith) in record { wrote = w .wrote; past = omega arith }
+
+pub fill-start : (f : ℕ → List ℕ) (n : ℕ) (l : List ℕ) (at : ℕ) → at + length (each f (upTo n)) ≤ length l → Filling f n l l at at 0
+unfolding upTo each
+fill-start f n l at h = record { within = omega arith; room = h; wrote = written-none l at (omega arith) }
+
+module _ {f : ℕ → List ℕ} {n : ℕ} {l m : List ℕ} {from at i : ℕ} (s : Filling f n l m from at i) where
+  pub fill-long : length m ≡ length l
+  fill-long = written-length (s .wrote) (omega (arith, s .room, up-less f i n (s .within)))
+
+  pub fill-room : i < n → at + length (f i) ≤ length m
+  fill-room h = omega (arith, fill-long, s .room, s .wrote .past, up-less f (suc i) n h, ap length (each-up f i), length-append (each f (upTo i)) (f i))
+
+  pub fill-next : i < n → {o : List ℕ} {a : ℕ} → Written (f i) m o at a → Filling f n l o from a (i + 1)
+  fill-next h p =
+      record { within = omega arith; room = s .room; wrote = rw (add-one, each-up f i) (written-more (s .wrote) (omega (arith, s .room, up-less f (suc i) n h, ap length (each-up f i))) p) }
+
+  pub fill-end : n ≤ i → Written (each f (upTo n)) l m from at
+  fill-end h = let e : n ≡ i = omega (arith, s .within) in rw e (s .wrote)
+
+-- ---- the sizes of two runs of records, one for each number below i
+
+pub sizes-start : (f h : ℕ → List ℕ) → 0 ≡ length (each f (upTo 0)) + length (each h (upTo 0))
+unfolding upTo each
+sizes-start f h = refl
+
+pub sizes-next : (f h : ℕ → List ℕ) (i sum a b : ℕ) → sum ≡ length (each f (upTo i)) + length (each h (upTo i)) → a ≡ length (f i) → b ≡ length (h i) → sum + (a + b) ≡ length (each f (upTo (i + 1))) + length (each h (upTo (i + 1)))
+sizes-next f h i sum a b e p q = omega (arith, each-size f i, each-size h i)

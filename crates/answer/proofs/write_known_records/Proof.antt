@@ -1,0 +1,47 @@
+-- `answer::write_known_records` meets its contract.
+use Prim.Native.Nat.{ℕ, _+_, _-_, _*_, _≤_, _<_}
+use native.Mathlib.Omega.{arith}
+use mathlib.Core.Path.{_≡_, refl, sym, ap, ap₂, _∙_, subst}
+use mathlib.Core.Option.{Option, none, some}
+use mathlib.Core.List.{List, [], _∷_, _++_}
+use lib.ListN.{length, getD, length-append}
+use borrow.Author.Needs.{needs}
+use denote.Ref.{now}
+use Rattle.encoding.specs.Numbers.{bytesOf, Written}
+use Rattle.encoding.specs.Values.{kindOf, headBytes, valueBytes, propertyBytes}
+use Rattle.encoding.proofs.Splices.{written-length, written-more}
+use Rattle.model.specs.Answer.{knownBytes}
+use Rattle.state.specs.Held.{knownOf}
+use Rattle.answer.proofs.Fill.{Filling, fill-start, fill-long, fill-room, fill-next, fill-end}
+use Rattle.answer.proofs.write_known_records.Statement.{statement}
+use Rattle.answer.proofs.write_known_records.Tie as tie
+
+abbrev Inv-loop : tie.InvT-loop
+Inv-loop kinds words nodes out₀ at next₀ i₀ out next i = Filling (λ i. knownBytes i (knownOf kinds words i)) nodes out₀ out at next i
+
+abbrev μ-loop : tie.MeasureT-loop
+μ-loop kinds words nodes out₀ at next₀ i₀ out next i = nodes - i
+
+loop-holds : tie.Need-loop-holds Inv-loop μ-loop
+loop-holds c = fill-start _ _ _ _ (c .before .pre .1)
+
+write-known-requires : tie.Need-write-known-requires Inv-loop μ-loop
+write-known-requires c κs = (omega (arith, c .before .before .before .before .pre .0, c .before .loop-test .taken), fill-room (c .before .before .loop .inv) (c .before .loop-test .taken))
+
+add-i : tie.Need-add-i Inv-loop μ-loop
+add-i c = search needs
+
+loop-less : tie.Need-loop-less Inv-loop μ-loop
+loop-less c = search needs
+
+loop-again : tie.Need-loop-again Inv-loop μ-loop
+loop-again c = fill-next (c .before .before .before .before .before .loop .inv) (c .before .before .before .before .loop-test .taken) (c .before .before .write-known .ensures)
+
+same-length : tie.Need-same-length Inv-loop μ-loop
+same-length c = fill-long (c .before .loop .inv)
+
+returns : tie.Need-returns Inv-loop μ-loop
+returns c = fill-end (c .before .loop .inv) (c .loop-test .left)
+
+pub write-known-records-spec : {M : Type 1} → statement M
+write-known-records-spec = tie.close (tie.spec Inv-loop μ-loop loop-holds write-known-requires add-i loop-less loop-again same-length returns)

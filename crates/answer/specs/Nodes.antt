@@ -1,0 +1,29 @@
+-- The records of known nodes and of fates, by what the arrays hold.
+use Prim.Native.Nat.{ℕ, _+_, _≤_}
+use mathlib.Core.Path.{_≡_}
+use mathlib.Core.Bool.{cond}
+use mathlib.Core.Option.{Option, none, some}
+use mathlib.Core.List.{List, _++_}
+use mathlib.Core.Logic.{_⊎_}
+use lib.Dec.{eqb}
+use lib.ListN.{getD}
+use Rattle.value.specs.declared.Value.{Value}
+use Rattle.encoding.specs.Values.{kindOf, valueBytes, headBytes}
+use Rattle.model.specs.Maps.{Map, upTo}
+use Rattle.model.specs.Answer.{each, knownBytes}
+use Rattle.state.specs.Held.{knownOf}
+
+-- the records of the first n nodes that are known
+abbrev pub knownRecords : List ℕ → List ℕ → ℕ → List ℕ
+knownRecords kinds words n = each (λ i. knownBytes i (knownOf kinds words i)) (upTo n)
+
+-- the fate of node i by its action: 0 and what no plan is kept, 1 made literal with its known value, the others removed
+unfoldable pub literalFate : ℕ → Option Value → List ℕ
+literalFate i none = headBytes 0x10 i
+literalFate i (some v) = headBytes (0xf + kindOf v) i ++ valueBytes v
+
+unfoldable pub fateBy : ℕ → ℕ → Option Value → List ℕ
+fateBy i action o = cond (eqb action 1) (literalFate i o) (headBytes (cond (eqb action 0) 0x10 0x11) i)
+
+abbrev pub fateRecords : List ℕ → List ℕ → List ℕ → ℕ → List ℕ
+fateRecords kinds words actions n = each (λ i. fateBy i (getD actions i 0) (knownOf kinds words i)) (upTo n)

@@ -1,0 +1,172 @@
+// The records of the answer that say what is known of each node and what becomes of it, and how long they are.
+use encoding::numbers;
+use encoding::values;
+use ir::kind;
+use ir::limit;
+use ir::port;
+use state::WORDS;
+use value::OptionValue;
+use value::Value;
+ghost use mathlib.Core.Path.{_≡_};
+ghost use mathlib.Core.Bool.{cond};
+ghost use mathlib.Core.Option.{some};
+ghost use mathlib.Core.List.{List, _++_};
+ghost use mathlib.Core.Logic.{_⊎_};
+ghost use Prim.Native.Nat.{ℕ, _+_, _*_, _≤_, _<_};
+ghost use lib.Dec.{eqb};
+ghost use lib.ListN.{length, getD};
+ghost use Rattle.ir.specs.Limits.{maxNodes};
+ghost use Rattle.encoding.specs.Numbers.{Written};
+ghost use Rattle.encoding.specs.Values.{headBytes, valueBytes};
+ghost use Rattle.model.specs.Answer.{knownBytes};
+ghost use Rattle.state.specs.Held.{held, knownOf, isKind};
+ghost use Rattle.answer.specs.Nodes.{knownRecords, literalFate, fateBy, fateRecords};
+
+// The kinds of the records of fates. A planned literal's kind is this much above that of its value.
+pub const FATE_KEPT: u8 = 0x10;
+
+pub const FATE_REMOVED: u8 = 0x11;
+
+const FATE_LITERAL: u8 = 0x0F;
+
+// How long a record of a fate is without a value.
+const FATE_SIZE: usize = 3;
+
+// ---- sizes
+
+fn known_size(kind: u8) -> usize
+    requires { ⌜ isKind kind ⌝ }
+    ensures { λ r. ⌜ ((i a b c d : ℕ) → r ≡ length (knownBytes i (held kind a b c d))) × (r ≤ 36) ⌝ }
+{
+    if kind == 0 {
+        0
+    } else {
+        1 + kind::body_of(kind)
+    }
+}
+
+fn fate_size(action: u8, kind: u8) -> usize
+    requires { ⌜ isKind kind ⌝ }
+    ensures { λ r. ⌜ ((i a b c d : ℕ) → r ≡ length (fateBy i action (held kind a b c d))) × (r ≤ 35) ⌝ }
+{
+    if action != state::BECOME_LITERAL {
+        return FATE_SIZE;
+    }
+    if kind == 0 {
+        return FATE_SIZE;
+    }
+    kind::body_of(kind)
+}
+
+// How many bytes the records of the first `nodes` nodes have.
+pub fn nodes_size(kinds: &[u8; limit::NODES], actions: &[u8; limit::NODES], nodes: usize) -> usize
+    requires { ⌜ (nodes ≤ maxNodes) × ((m : ℕ) → isKind (getD (now kinds) m 0)) ⌝ }
+    ensures { λ r. ⌜ ((words : List ℕ) → r ≡ length (knownRecords (now (kinds .entry)) words nodes) + length (fateRecords (now (kinds .entry)) words (now (actions .entry)) nodes)) × (r ≤ 71 * nodes) ⌝ }
+{
+    let mut sum = 0;
+    let mut i = 0;
+    while i < nodes {
+        sum = sum + (known_size(kinds[i]) + fate_size(actions[i], kinds[i]));
+        i += 1;
+    }
+    sum
+}
+
+// ---- writing
+
+fn write_known(
+    kinds: &[u8; limit::NODES],
+    words: &[u64; WORDS],
+    i: usize,
+    out: &mut [u8],
+    at: usize,
+) -> usize
+    requires { ⌜ (i < maxNodes) × (at + length (knownBytes i (knownOf (now kinds) (now words) i)) ≤ length (now out)) ⌝ }
+    ensures { λ r. ⌜ Written (knownBytes i (knownOf (now (kinds .entry)) (now (words .entry)) i)) (now (out .entry)) (now (out .exit)) at r ⌝ }
+{
+    let OptionValue::Some(v) = state::load(kinds, words, i) else {
+        return at;
+    };
+    values::write_value(out, at, i, port::VALUE, v)
+}
+
+// The known nodes in number order.
+pub fn write_known_records(
+    kinds: &[u8; limit::NODES],
+    words: &[u64; WORDS],
+    nodes: usize,
+    out: &mut [u8],
+    at: usize,
+) -> usize
+    requires { ⌜ (nodes ≤ maxNodes) × (at + length (knownRecords (now kinds) (now words) nodes) ≤ length (now out)) ⌝ }
+    ensures { λ r. ⌜ Written (knownRecords (now (kinds .entry)) (now (words .entry)) nodes) (now (out .entry)) (now (out .exit)) at r ⌝ }
+{
+    let mut next = at;
+    let mut i = 0;
+    while i < nodes {
+        next = write_known(kinds, words, i, out, next);
+        i += 1;
+    }
+    next
+}
+
+fn write_literal(i: usize, v: Value, out: &mut [u8], at: usize) -> usize
+    requires { ⌜ at + length (literalFate i (some v)) ≤ length (now out) ⌝ }
+    ensures { λ r. ⌜ Written (literalFate i (some v)) (now (out .entry)) (now (out .exit)) at r ⌝ }
+{
+    let kind = values::kind_of(v);
+    let next = numbers::write_head(out, at, FATE_LITERAL + kind, i);
+    values::write_bytes(out, next, v)
+}
+
+fn fate_of(action: u8) -> u8
+    ensures { λ r. ⌜ r ≡ cond (eqb action 0) 0x10 0x11 ⌝ }
+{
+    if action == state::KEPT {
+        FATE_KEPT
+    } else {
+        FATE_REMOVED
+    }
+}
+
+fn write_fate(
+    kinds: &[u8; limit::NODES],
+    words: &[u64; WORDS],
+    action: u8,
+    i: usize,
+    out: &mut [u8],
+    at: usize,
+) -> usize
+    requires { ⌜ (i < maxNodes) × (at + length (fateBy i action (knownOf (now kinds) (now words) i)) ≤ length (now out)) ⌝ }
+    ensures { λ r. ⌜ Written (fateBy i action (knownOf (now (kinds .entry)) (now (words .entry)) i)) (now (out .entry)) (now (out .exit)) at r ⌝ }
+{
+    if action != state::BECOME_LITERAL {
+        let fate = fate_of(action);
+        return numbers::write_head(out, at, fate, i);
+    }
+    let OptionValue::Some(v) = state::load(kinds, words, i) else {
+        return numbers::write_head(out, at, FATE_KEPT, i);
+    };
+    write_literal(i, v, out, at)
+}
+
+// The fates in number order.
+pub fn write_fates(
+    kinds: &[u8; limit::NODES],
+    words: &[u64; WORDS],
+    actions: &[u8; limit::NODES],
+    nodes: usize,
+    out: &mut [u8],
+    at: usize,
+) -> usize
+    requires { ⌜ (nodes ≤ maxNodes) × (at + length (fateRecords (now kinds) (now words) (now actions) nodes) ≤ length (now out)) ⌝ }
+    ensures { λ r. ⌜ Written (fateRecords (now (kinds .entry)) (now (words .entry)) (now (actions .entry)) nodes) (now (out .entry)) (now (out .exit)) at r ⌝ }
+{
+    let mut next = at;
+    let mut i = 0;
+    while i < nodes {
+        next = write_fate(kinds, words, actions[i], i, out, next);
+        i += 1;
+    }
+    next
+}

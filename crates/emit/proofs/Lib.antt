@@ -1,0 +1,4 @@
+pub mod Stack
+pub mod Fanning
+pub mod Nets
+pub mod Writing

@@ -1,0 +1,25 @@
+-- `emit::push` meets its contract.
+use mathlib.Core.Path.{_≡_, refl, sym, ap, _∙_}
+use Prim.Native.Nat.{_≤_, _<_}
+use native.Mathlib.Omega.{arith}
+use borrow.Author.Needs.{needs}
+use Rattle.emit.proofs.push.Statement.{statement}
+use Rattle.emit.proofs.push.Tie as tie
+
+returns : tie.Need-returns
+returns c = record { none = λ e. (refl, refl); one = λ h. absurd (omega (arith, c .if1 .taken)) }
+
+mul-stack : tie.Need-mul-stack
+mul-stack c = search needs
+
+element-write-stack : tie.Need-element-write-stack
+element-write-stack c = search needs
+
+add-result : tie.Need-add-result
+add-result c = search needs
+
+returns-2 : tie.Need-returns-2
+returns-2 c = record { none = λ e. absurd (c .if1 .left e); one = λ h. (refl, refl) }
+
+pub push-spec : {M : Type 1} → statement M
+push-spec = tie.close (tie.spec returns mul-stack element-write-stack add-result returns-2)

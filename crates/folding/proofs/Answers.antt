@@ -1,0 +1,115 @@
+-- The outcome of an accepted input, by what the arrays hold after the worklist and by what the rewriting finds.
+use mathlib.Core.Path.{_≡_, refl, sym, ap, ap₂, _∙_, fun-ext}
+use mathlib.Core.Bool.{Bool, true, false, cond}
+use mathlib.Core.Option.{Option, none, some}
+use mathlib.Core.List.{List, [], _∷_, _++_}
+use mathlib.Core.Logic.{_≢_}
+use Prim.Native.Nat.{ℕ, zero, suc, _+_, _*_, _<_, _≤_}
+use native.Mathlib.Omega.{arith}
+use native.Mathlib.Decide.{ℕ-discrete}
+use lib.Dec.{eqb, leb}
+use lib.ListN.{length, getD, length-append}
+use borrow.Author.Tests.{ne-eqb, le-leb, lt-leb}
+use Rattle.ir.specs.Limits.{maxWires}
+use Rattle.ir.specs.declared.Wire.{Wire}
+use Rattle.value.specs.declared.Value.{Value}
+use Rattle.encoding.specs.Numbers.{bytesOf}
+use Rattle.encoding.specs.Wires.{wireBytes}
+use Rattle.graph.specs.Graph.{Graph}
+use Rattle.graph.specs.Decode.{accepted, decode}
+use Rattle.model.specs.Maps.{Map, upTo}
+use Rattle.model.specs.Inputs.{size}
+use Rattle.model.specs.Offer.{PlanAction, BecomeLiteral, ShortCircuit, Truncate}
+use Rattle.model.specs.Rewrite.{rewriteWires}
+use Rattle.model.specs.Answer.{each, knownBytes, fateBytes, answer}
+use Rattle.model.specs.Outcome.{endlessIndex, wireOffset, ending, counted, wires, stops, Rewriting, Result, folds, refuses, measured, answered, outcome}
+use Rattle.model.specs.Demands as Demands
+use Rattle.model.specs.Demands.{foldOf}
+use Rattle.model.proofs.Refusals.{at-graph}
+use Rattle.state.specs.Held.{knownOf}
+use Rattle.state.specs.Planned.{shapeAt, shapeOf, literalOf, valued, planOf, Shaped, Holds}
+use Rattle.answer.specs.Nodes.{knownRecords, literalFate, fateBy, fateRecords}
+use Rattle.folding.proofs.Alike.{wires-same, index-same, shape-alike}
+
+-- ---- the bytes
+
+-- a fate by the action
+fate-same : (ws : List Wire) (known : Map Value) (actions details : List ℕ) (i : ℕ) → getD actions i 0 ≤ 3
+    → fateBytes i (planOf ws known actions details i) ≡ fateBy i (getD actions i 0) (known i)
+unfolding fateBytes planOf shapeOf shapeAt valued fateBy literalFate
+fate-same ws known actions details i h = go (getD actions i 0) h (ℕ-discrete (getD actions i 0) 0) (ℕ-discrete (getD actions i 0) 1) (ℕ-discrete (getD actions i 0) 2)
+  where
+    lit : (o : Option Value) → fateBytes i (literalOf o) ≡ literalFate i o
+    lit none = refl
+    lit (some v) = refl
+
+    go : (a : ℕ) → a ≤ 3 → Dec (a ≡ 0) → Dec (a ≡ 1) → Dec (a ≡ 2) → fateBytes i (valued (shapeAt ws a (getD details i 0) i) (known i)) ≡ fateBy i a (known i)
+    go a l (yes e) q r = rw e refl
+    go a l (no p) (yes e) r = rw e (lit (known i))
+    go a l (no p) (no q) (yes e) = rw e refl
+    go a l (no p) (no q) (no r) = let e : a ≡ 3 = omega arith in rw e refl
+
+pub wires-size : (ws : List Wire) → length (each wireBytes ws) ≡ 7 * length ws
+unfolding each bytesOf
+wires-size [] = refl
+wires-size (w ∷ ws) = omega (arith, length-append (wireBytes w) (each wireBytes ws), wires-size ws)
+
+-- the answer's bytes by what the arrays hold
+abbrev pub bytesIn : ℕ → List ℕ → List ℕ → List ℕ → List Wire → List ℕ
+bytesIn n kinds words actions ws = knownRecords kinds words n ++ fateRecords kinds words actions n ++ each wireBytes ws
+
+pub bytes-size : (n : ℕ) (kinds words actions : List ℕ) (ws : List Wire) → length (bytesIn n kinds words actions ws) ≡ length (knownRecords kinds words n) + length (fateRecords kinds words actions n) + 7 * length ws
+bytes-size n kinds words actions ws =
+    length-append (knownRecords kinds words n ++ fateRecords kinds words actions n) (each wireBytes ws)
+    ∙ omega (arith, length-append (knownRecords kinds words n) (fateRecords kinds words actions n), wires-size ws)
+
+-- ---- the outcome
+
+module _ (input : List ℕ) (room : ℕ) (g : Graph) (read : decode input ≡ accepted g) (kinds words actions details : List ℕ) (h : Holds g kinds words actions details (foldOf g .state)) where
+  abbrev shape : Map PlanAction
+  shape = shapeOf (g .wires) actions details
+
+  plan-same : (n : ℕ) (ws : List Wire) → rewriteWires (foldOf g .state .plan) n ws ≡ rewriteWires shape n ws
+  plan-same n ws = ap (λ (p : Map PlanAction). rewriteWires p n ws) (h .plan) ∙ wires-same _ _ (shape-alike (g .wires) (foldOf g .state .known) actions details (h .literal)) n ws
+
+  index-of : (n : ℕ) (ws : List Wire) → endlessIndex (foldOf g .state .plan) n ws ≡ endlessIndex shape n ws
+  index-of n ws = ap (λ (p : Map PlanAction). endlessIndex p n ws) (h .plan) ∙ index-same _ _ (shape-alike (g .wires) (foldOf g .state .known) actions details (h .literal)) n ws
+
+  answer-same : (ws : List Wire) → answer (size g) (foldOf g .state) ws ≡ bytesIn (size g) kinds words actions ws
+  unfolding answer
+  answer-same ws =
+      ap₂
+      (λ (f k : ℕ → List ℕ). each f (upTo (size g)) ++ each k (upTo (size g)) ++ each wireBytes ws)
+      (fun-ext (λ i. ap (λ (m : Map Value). knownBytes i (m i)) (h .known)))
+      (fun-ext
+      (λ i.
+      ap (λ (p : Map PlanAction). fateBytes i (p i)) (h .plan)
+      ∙ fate-same (g .wires) (foldOf g .state .known) actions details i (h .shaped .listed i)
+      ∙ ap (λ (m : Map Value). fateBy i (getD actions i 0) (m i)) (h .known)))
+
+  abbrev rest : Option (List Wire) → Result
+  rest o = answered g (foldOf g) room (ending g (Demands.planOf g) o)
+
+  at-wires : (o : Option (List Wire)) → rewriteWires shape (size g) (g .wires) ≡ o → outcome input room ≡ rest o
+  at-wires o e = at-graph input room g read ∙ ap rest (plan-same (size g) (g .wires) ∙ e)
+
+  pub outcome-endless : rewriteWires shape (size g) (g .wires) ≡ none → outcome input room ≡ refuses 9 (wireOffset g (endlessIndex shape (size g) (g .wires)))
+  unfolding ending answered
+  outcome-endless e = at-wires none e ∙ ap (λ (i : ℕ). refuses 9 (wireOffset g i)) (index-of (size g) (g .wires))
+
+  module _ (ws : List Wire) (e : rewriteWires shape (size g) (g .wires) ≡ some ws) where
+    pub outcome-many : maxWires < length ws → outcome input room ≡ refuses 10 0
+    unfolding ending answered counted
+    outcome-many l = at-wires (some ws) e ∙ rw (lt-leb (length ws) maxWires l) refl
+
+    fits : length ws ≤ maxWires → outcome input room ≡ measured room (answer (size g) (foldOf g .state) ws) (foldOf g .pops)
+    unfolding ending answered counted
+    fits l = at-wires (some ws) e ∙ rw (le-leb (length ws) maxWires l) refl
+
+    pub outcome-long : length ws ≤ maxWires → room < length (bytesIn (size g) kinds words actions ws) → outcome input room ≡ refuses 10 0
+    unfolding measured
+    outcome-long l b = fits l ∙ rw (answer-same ws) (rw (lt-leb _ room b) refl)
+
+    pub outcome-folds : length ws ≤ maxWires → length (bytesIn (size g) kinds words actions ws) ≤ room → outcome input room ≡ folds (bytesIn (size g) kinds words actions ws) (foldOf g .pops)
+    unfolding measured
+    outcome-folds l b = fits l ∙ rw (answer-same ws) (rw (le-leb _ room b) refl)

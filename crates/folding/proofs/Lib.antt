@@ -1,0 +1,4 @@
+pub mod Alike
+pub mod Answers
+pub mod Stages
+pub mod Kept

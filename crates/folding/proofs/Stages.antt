@@ -1,0 +1,217 @@
+-- From each stage to the entry's result and buffer.
+use mathlib.Core.Path.{_≡_, refl, sym, ap, ap₂, _∙_, subst, subst₂}
+use mathlib.Core.Bool.{Bool, true, false, cond, false≢true}
+use mathlib.Core.Option.{Option, none, some}
+use mathlib.Core.List.{List, [], _∷_, _++_, append-assoc}
+use Prim.Native.Nat.{ℕ, zero, suc, _+_, _*_, _<_, _≤_, min}
+use native.Mathlib.Omega.{arith}
+use lib.ListN.{length, getD, take, drop, length-append}
+use Rattle.ir.specs.Limits.{maxNodes, maxWires}
+use Rattle.ir.specs.declared.Wire.{Wire}
+use Rattle.encoding.specs.Numbers.{splice, Written}
+use Rattle.encoding.specs.Wires.{wireBytes}
+use Rattle.encoding.proofs.Splices.{written-length, written-more}
+use Rattle.graph.specs.Graph.{Graph, countsOf}
+use Rattle.graph.specs.Decode.{Verdict, accepted, refused, decode, graphOf}
+use Rattle.graph.specs.Refusals.{counts, refusal, reported}
+use Rattle.graph.specs.declared.Counts.{Counts}
+use Rattle.records.specs.Access.{Accepts, Bounded, rowsOf}
+use Rattle.records.proofs.Laid.{counted, bounded, few-nodes}
+use Rattle.resolve.specs.Reads.{Reads}
+use Rattle.model.specs.Maps.{Map, isSome}
+use Rattle.model.specs.Inputs.{size}
+use Rattle.model.specs.Offer.{PlanAction, literals}
+use Rattle.model.specs.Worklist.{alwaysJoins}
+use Rattle.model.proofs.QueueLength.{always-joins}
+use Rattle.model.specs.Answer.{each}
+use Rattle.model.specs.Rewrite.{rewriteWire, rewriteWires}
+use Rattle.model.specs.TargetCounts.{cap}
+use Rattle.model.specs.Outcome.{endlessIndex, wireOffset, Result, folds, refuses, Numbers, numbersOf, written, outcome}
+use Rattle.model.specs.Demands.{foldOf}
+use Rattle.model.proofs.Refusals.{at-refusal}
+use Rattle.state.specs.Planned.{shapeOf, Shaped}
+use Rattle.rewrite.specs.Rewritable.{Rewritable}
+use Rattle.rewrite.specs.Tallied.{Stuck, Counted}
+use Rattle.answer.specs.Nodes.{knownRecords, fateRecords}
+use Rattle.emit.specs.Emit.{orNil, Ready, EmitsAll}
+use Rattle.folding.specs.declared.Outcome.{Outcome}
+use Rattle.folding.specs.Entry.{numbers, Answers, Indexes, Settled, Rewrote}
+use Rattle.folding.proofs.Answers.{bytesIn, bytes-size, outcome-endless, outcome-many, outcome-long, outcome-folds}
+
+-- an accepted input has its graph
+pub accepted-graph : (s : List ℕ) (c : Counts) → Accepts s c → decode s ≡ accepted (graphOf s)
+unfolding graphOf
+accepted-graph s c a = go (decode s) refl
+  where
+    go : (v : Verdict) → decode s ≡ v → decode s ≡ accepted (graphOf s)
+    go (accepted g) e = rw e refl
+    go (refused n p) e = absurd (let z : counts c ≡ refusal n p = a ∙ ap reported e in let y : _≡_ {A = ℕ} 0 1 = cc in omega arith)
+
+-- the counts are those of the graph
+pub nodes-are : (s : List ℕ) (c : Counts) → Accepts s c → c .nodes ≡ size (graphOf s)
+unfolding size
+nodes-are s c a = ap (λ (d : Counts). d .nodes) (counted s c a)
+
+pub refuse : {input before : List ℕ} {n p : ℕ} → outcome input (length before) ≡ refuses n p → Answers input before before (Outcome.Refused n p)
+unfolding numbersOf written
+refuse e = record { result = rw e refl; buffer = rw e refl }
+
+-- questions 1 to 8
+pub refuse-decode : {input before : List ℕ} {n p : ℕ} → refusal n p ≡ reported (decode input) → Answers input before before (Outcome.Refused n p)
+refuse-decode {input} {before} {n} {p} e = go (decode input) refl
+  where
+    go : (v : Verdict) → decode input ≡ v → Answers input before before (Outcome.Refused n p)
+    go (accepted g) q = absurd (let z : refusal n p ≡ counts (countsOf g) = e ∙ ap reported q in let y : _≡_ {A = ℕ} 0 1 = cc in omega arith)
+    go (refused m r) q =
+        let z : refusal n p ≡ refusal m r = e ∙ ap reported q in
+        let x : n ≡ m = cc in
+        let y : p ≡ r = cc in
+        refuse (at-refusal input (length before) n p (q ∙ ap₂ refused (sym x) (sym y)))
+
+splice-start : (l bs : List ℕ) → splice l 0 bs ≡ bs ++ drop (length bs) l
+unfolding splice
+splice-start l bs = let e : 0 + length bs ≡ length bs = omega arith in ap (λ (k : ℕ). bs ++ drop k l) e
+
+module _ {input : List ℕ} {c : Counts} {kinds words actions details : List ℕ} {pops : ℕ} (W : Settled input c kinds words actions details pops) where
+  abbrev g : Graph
+  g = graphOf input
+
+  read : decode input ≡ accepted g
+  read = accepted-graph input c (W .accepts)
+
+  -- question 10
+  pub refuse-endless : {before : List ℕ} {index place : ℕ} → Stuck (shapeOf (g .wires) actions details) (size g) (g .wires) index → place ≡ 3 * c .nodes + 7 * index → Answers input before before (Outcome.Refused 9 place)
+  refuse-endless {before} {index} {place} S e =
+      let z : place ≡ wireOffset g (endlessIndex (shapeOf (g .wires) actions details) (size g) (g .wires)) = e ∙ ap₂ (λ (d : Counts) (i : ℕ). 3 * d .nodes + 7 * i) (counted input c (W .accepts)) (S .first) in
+      refuse (outcome-endless input (length before) g read kinds words actions details (W .holds) (S .endless) ∙ ap (refuses 9) (sym z))
+
+module _ {input : List ℕ} {c : Counts} {kinds words actions details sources targets first next : List ℕ} {count pops : ℕ} (R : Rewrote input c kinds words actions details sources targets first next count pops) where
+  abbrev h : Graph
+  h = graphOf input
+
+  abbrev ws : List Wire
+  ws = R .counted .rewritten
+
+  is-read : decode input ≡ accepted h
+  is-read = accepted-graph input c (R .worked .accepts)
+
+  -- question 11: too many wires
+  pub refuse-many : {before : List ℕ} → maxWires < count → Answers input before before (Outcome.Refused 10 0)
+  unfolding cap
+  refuse-many {before} l =
+      refuse (outcome-many input (length before) h is-read kinds words actions details (R .worked .holds) ws (R .counted .ends) (omega (arith, R .counted .many)))
+
+  module _ (l : count ≤ maxWires) where
+    pub exact : count ≡ length ws
+    unfolding cap
+    exact = omega (arith, R .counted .many)
+
+    whole : length (bytesIn (size h) kinds words actions ws) ≡ length (knownRecords kinds words (size h)) + length (fateRecords kinds words actions (size h)) + 7 * count
+    whole = bytes-size (size h) kinds words actions ws ∙ omega (arith, exact)
+
+    -- question 11: too long an answer
+    pub refuse-long : {before : List ℕ} {size-of : ℕ} → size-of ≡ length (knownRecords kinds words (size h)) + length (fateRecords kinds words actions (size h)) + 7 * count → length before < size-of → Answers input before before (Outcome.Refused 10 0)
+    refuse-long {before} {size-of} e m =
+        refuse (outcome-long input (length before) h is-read kinds words actions details (R .worked .holds) ws (R .counted .ends) (omega (arith, exact)) (omega (arith, whole)))
+
+    ws-is : orNil (rewriteWires (shapeOf (h .wires) actions details) (size h) (h .wires)) ≡ ws
+    ws-is = ap orNil (R .counted .ends)
+
+    pub ready : Ready (h .wires) (size h) actions details sources targets first next
+    ready =
+        record {
+          bounded = (unfold size in bounded input);
+          shaped = R .worked .holds .shaped;
+          rewritable = R .rewritable;
+          ends = R .counted .ends ∙ ap some (sym ws-is);
+          few = omega (arith, ap length ws-is, exact);
+        }
+
+    -- the answer
+    pub folded : {before one two three : List ℕ} {a b r : ℕ} → length (knownRecords kinds words (size h)) + length (fateRecords kinds words actions (size h)) + 7 * count ≤ length before
+        → Written (knownRecords kinds words (size h)) before one 0 a → Written (fateRecords kinds words actions (size h)) one two a b → Written (each wireBytes (orNil (rewriteWires (shapeOf (h .wires) actions details) (size h) (h .wires)))) two three b r
+        → Answers input before three (Outcome.Folded r pops)
+    unfolding numbersOf written
+    folded {before} {one} {two} {three} {a} {b} {r} m x y z =
+        let K = knownRecords kinds words (size h) in
+        let F = fateRecords kinds words actions (size h) in
+        let T : List ℕ = each wireBytes ws in
+        let z' : Written T two three b r = rw ws-is at z in
+        let xy = written-more x (omega (arith, m, length-append K F)) y in
+        let w = written-more xy (omega (arith, m, whole)) z' in
+        let e : outcome input (length before) ≡ folds (bytesIn (size h) kinds words actions ws) (foldOf h .pops) = outcome-folds input (length before) h is-read kinds words actions details (R .worked .holds) ws (R .counted .ends) (omega (arith, exact)) (omega (arith, m, whole)) in
+        record {
+          result = rw e (ap₂ (λ (i j : ℕ). record { number = 0; place = 0; length = i; pops = j }) (w .past ∙ omega arith) (R .worked .pops-are));
+          buffer = rw e (w .wrote ∙ splice-start before (bytesIn (size h) kinds words actions ws));
+        }
+
+    -- the same, where the code has the number of nodes and the wires
+    module _ (n : ℕ) (vs : List Wire) (e : n ≡ size h) (f : vs ≡ h .wires) where
+      pub long-at : {before : List ℕ} {size-of : ℕ} → size-of ≡ length (knownRecords kinds words n) + length (fateRecords kinds words actions n) + 7 * count → length before < size-of → Answers input before before (Outcome.Refused 10 0)
+      long-at {before} {size-of} q m = refuse-long {before = before} {size-of = size-of} (rw e at q) m
+
+      pub ready-at : Ready vs n actions details sources targets first next
+      ready-at = subst₂ (λ (m : ℕ) (us : List Wire). Ready us m actions details sources targets first next) (sym e) (sym f) ready
+
+      pub wires-at : length (orNil (rewriteWires (shapeOf vs actions details) n vs)) ≡ count
+      wires-at = rw (e, f) (ap length ws-is ∙ sym exact)
+
+      pub folded-at : {before one two three : List ℕ} {a b r : ℕ} → length (knownRecords kinds words n) + length (fateRecords kinds words actions n) + 7 * count ≤ length before
+          → Written (knownRecords kinds words n) before one 0 a → Written (fateRecords kinds words actions n) one two a b → Written (each wireBytes (orNil (rewriteWires (shapeOf vs actions details) n vs))) two three b r
+          → Answers input before three (Outcome.Folded r pops)
+      folded-at m x y z = folded (rw e at m) (rw e at x) (rw e at y) (rw (e, f) at z)
+
+-- ---- what each stage needs of the one before
+
+index-low : (p : Map PlanAction) (n : ℕ) (ws : List Wire) → endlessIndex p n ws ≤ length ws
+unfolding endlessIndex
+index-low p n [] = omega arith
+index-low p n (w ∷ ws) = go (isSome (rewriteWire p n w)) (index-low p n ws)
+  where
+    go : (b : Bool) → endlessIndex p n ws ≤ length ws → cond b (suc (endlessIndex p n ws)) 0 ≤ suc (length ws)
+    go true h = omega arith
+    go false h = omega arith
+
+pub bounded-at : (input : List ℕ) (c : Counts) {vs : List Wire} → Accepts input c → vs ≡ graphOf input .wires → Bounded vs (c .nodes)
+unfolding size
+bounded-at input c a f = subst₂ (λ (m : ℕ) (us : List Wire). Bounded us m) (sym (nodes-are input c a)) (sym f) (bounded input)
+
+pub reads-at : {input : List ℕ} {c : Counts} {table wires feedsFirst feedsNext first next rows : List ℕ} → Indexes input c table wires feedsFirst feedsNext first next → rowsOf rows ≡ graphOf input .rows → Reads (graphOf input) c input table wires rows feedsFirst feedsNext
+unfolding size
+reads-at {input} {c} X e =
+    record {
+      graph = refl;
+      counts = counted input c (X .accepts);
+      properties = X .properties;
+      wires-part = X .wires-part;
+      rows-part = e;
+      bounded = bounded input;
+      feeds = X .feeds;
+    }
+
+-- question 9 is never answered with no
+pub never-full-at : {X : Type 0} {input : List ℕ} {c : Counts} {table wires feedsFirst feedsNext first next : List ℕ} → Indexes input c table wires feedsFirst feedsNext first next → alwaysJoins (literals (graphOf input)) (graphOf input) ≡ false → X
+unfolding size
+never-full-at {input = input} I e = absurd (false≢true (sym e ∙ always-joins (literals (graphOf input)) (graphOf input) (few-nodes input)))
+
+module _ {input : List ℕ} {c : Counts} {kinds words actions details : List ℕ} {pops : ℕ} (W : Settled input c kinds words actions details pops) {vs : List Wire} (f : vs ≡ graphOf input .wires) where
+  nodes : c .nodes ≡ size (graphOf input)
+  nodes = nodes-are input c (W .accepts)
+
+  pub shaped-at : Shaped vs (c .nodes) actions details
+  shaped-at = subst₂ (λ (m : ℕ) (us : List Wire). Shaped us m actions details) (sym nodes) (sym f) (W .holds .shaped)
+
+  pub stuck-at : {index : ℕ} → Stuck (shapeOf vs actions details) (c .nodes) vs index → Stuck (shapeOf (graphOf input .wires) actions details) (size (graphOf input)) (graphOf input .wires) index
+  stuck-at {index} S = subst₂ (λ (m : ℕ) (us : List Wire). Stuck (shapeOf us actions details) m us index) nodes f S
+
+  pub small-place : {index : ℕ} → Stuck (shapeOf vs actions details) (c .nodes) vs index → (index ≤ 4096) × (3 * c .nodes ≤ 3072)
+  unfolding size
+  small-place {index} S = (omega (arith, S .first, index-low (shapeOf vs actions details) (c .nodes) vs, bounded-at input c (W .accepts) f .few-wires), omega (arith, bounded-at input c (W .accepts) f .few-nodes))
+
+  pub rewrote-at : {sources targets first next : List ℕ} {count : ℕ} → Counted (shapeOf vs actions details) (c .nodes) vs count → Rewritable vs (c .nodes) actions details sources targets first next → Rewrote input c kinds words actions details sources targets first next count pops
+  rewrote-at {sources} {targets} {first} {next} {count} C R =
+      record {
+        worked = W;
+        rewritable = subst₂ (λ (m : ℕ) (us : List Wire). Rewritable us m actions details sources targets first next) nodes f R;
+        counted = subst₂ (λ (m : ℕ) (us : List Wire). Counted (shapeOf us actions details) m us count) nodes f C;
+      }

@@ -1,0 +1,62 @@
+-- The demands on the entry, each of the input, the buffer afterwards and the four numbers that are returned.
+use Prim.Native.Nat.{ℕ, _+_, _≤_}
+use mathlib.Core.Path.{_≡_}
+use mathlib.Core.Bool.{true}
+use mathlib.Core.List.{List, []}
+use mathlib.Core.Option.{some}
+use mathlib.Core.Logic.{_↔_}
+use lib.ListN.{length, getD, take}
+use Rattle.ir.specs.declared.Wire.{Wire}
+use Rattle.encoding.specs.Wires.{wireAt}
+use Rattle.value.specs.declared.Value.{Value}
+use Rattle.semantics.specs.Finite.{finiteValue}
+use Rattle.graph.specs.Graph.{Graph}
+use Rattle.graph.specs.Decode.{accepted, decode, graphOf}
+use Rattle.records.specs.Access.{noWire}
+use Rattle.model.specs.Maps.{All}
+use Rattle.model.specs.Inputs.{size}
+use Rattle.model.specs.Offer.{BecomeLiteral, literals}
+use Rattle.model.specs.Trial.{empty, trials, Settled}
+use Rattle.model.specs.Rewrite.{rewriteWires}
+use Rattle.model.specs.Answer.{answer}
+use Rattle.model.specs.Outcome.{Numbers}
+use Rattle.model.specs.Demands.{foldOf, planOf, Refused, FirstEndless, Clean}
+
+-- demand 1: refused with a number and a place exactly where document 01 has that number and place for the input
+abbrev pub Refusals : List ℕ → ℕ → Numbers → Type 0
+Refusals input room r = (n p : ℕ) → 1 ≤ n → ((r .number ≡ n) × (r .place ≡ p)) ↔ Refused input room n p
+
+-- "place the offset of the first such wire record": the record there is that wire's
+pub record EndlessAt (input : List ℕ) (place : ℕ) : Type 0 where
+  pub index : ℕ
+  pub first : FirstEndless (planOf (graphOf input)) (graphOf input .wires) index
+  pub stands : wireAt input place ≡ getD (graphOf input .wires) index noWire
+
+abbrev pub Accepted : Numbers → Type 0
+Accepted r = r .number ≡ 0
+
+-- demand 3, of the graph of an accepted input.
+-- "every list of its nodes, in any order and with any repeats ..: the known values and the plan after the list are, bit for bit, those of our
+-- worklist exactly when no trial of any node would then add a known value or a plan"
+abbrev pub OrderFree : Graph → Type 0
+OrderFree g = (ns : List ℕ) → (trials (literals g) g empty ns ≡ foldOf g .state) ↔ Settled (literals g) g (trials (literals g) g empty ns)
+
+-- "Our answer is, byte for byte, what document 01 writes for that graph and the worklist's known values and plan"
+pub record AnswerOf (g : Graph) (bytes : List ℕ) : Type 0 where
+  pub wires : List Wire
+  pub rewritten : rewriteWires (planOf g) (size g) (g .wires) ≡ some wires
+  pub is : bytes ≡ answer (size g) (foldOf g .state) wires
+
+-- "its pops are those of the waiting-line rule", "until none waits", "and at most nodes plus wires"
+pub record PopsOf (g : Graph) (pops : ℕ) : Type 0 where
+  pub are : pops ≡ foldOf g .pops
+  pub until : foldOf g .queue ≡ []
+  pub few : pops ≤ size g + length (g .wires)
+
+-- "each planned number is finite"
+abbrev pub FinitePlan : Graph → Type 0
+FinitePlan g = (n : ℕ) (v : Value) → planOf g n ≡ some (BecomeLiteral v) → finiteValue v ≡ true
+
+-- "no rewritten wire touches a removed node or enters a node that was made literal"
+abbrev pub CleanWires : Graph → Type 0
+CleanWires g = (ws : List Wire) → rewriteWires (planOf g) (size g) (g .wires) ≡ some ws → All (Clean (planOf g)) ws

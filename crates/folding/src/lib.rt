@@ -1,0 +1,270 @@
+// The whole fold: a graph's records in, the answer's records out.
+use encoding::wires as wire_records;
+use graph::Counts;
+use graph::Decoded;
+use graph::SLOTS;
+use graph::refusals;
+use ir::limit;
+use records::access;
+use rewrite::Rewriting;
+use state::WORDS;
+use worklist::Worked;
+ghost use mathlib.Core.Path.{_≡_};
+ghost use mathlib.Core.List.{List};
+ghost use Prim.Native.Nat.{ℕ, _≤_};
+ghost use lib.ListN as ListN;
+ghost use lib.ListN.{length, take};
+ghost use Rattle.graph.specs.Decode.{graphOf};
+ghost use Rattle.graph.specs.Index.{Indexed};
+ghost use Rattle.records.specs.Access.{Accepts};
+ghost use Rattle.model.specs.Outcome.{numbersOf, written, outcome};
+ghost use Rattle.folding.specs.Entry.{numbers, Answers, Indexes, Settled, Rewrote};
+ghost use Rattle.folding.specs.Demands.{Refusals, EndlessAt, Accepted, OrderFree, AnswerOf, PopsOf, FinitePlan, CleanWires};
+
+// The answer's length and the pops, or a refusal's number and place.
+pub enum Outcome {
+    Folded { length: usize, pops: usize },
+    Refused { number: u8, place: usize },
+}
+
+// The numbers of the refusals that follow decoding.
+const ENDLESS: u8 = 9;
+
+const TOO_LONG: u8 = 10;
+
+const NO_PLACE: u8 = 11;
+
+// Question 11, and the answer. `count` is how many wires there are at the end, 4,097 for more than 4,096.
+fn write_answer(
+    input: &[u8],
+    counts: Counts,
+    kinds: &[u8; limit::NODES],
+    words: &[u64; WORDS],
+    actions: &[u8; limit::NODES],
+    details: &[u16; limit::NODES],
+    sources: &[u16; limit::NODES],
+    targets: &[u16; limit::NODES],
+    first: &[u16; limit::NODES],
+    next: &[u16; limit::WIRES],
+    count: usize,
+    pops: usize,
+    out: &mut [u8],
+) -> Outcome
+    requires { ⌜ Rewrote (now input) counts (now kinds) (now words) (now actions) (now details) (now sources) (now targets) (now first) (now next) count pops ⌝ }
+    ensures { λ r. ⌜ Answers (now (input .entry)) (now (out .entry)) (now (out .exit)) r ⌝ }
+{
+    if limit::WIRES < count {
+        return Outcome::Refused {
+            number: TOO_LONG,
+            place: 0,
+        };
+    }
+    let nodes = counts.nodes;
+    let size = answer::nodes_size(kinds, actions, nodes) + wire_records::SIZE * count;
+    if out.len() < size {
+        return Outcome::Refused {
+            number: TOO_LONG,
+            place: 0,
+        };
+    }
+    let wires = access::wires(input, counts);
+    let fates = answer::write_known_records(kinds, words, nodes, out, 0);
+    let past = answer::write_fates(kinds, words, actions, nodes, out, fates);
+    let length = emit::write_wires(
+        wires,
+        nodes,
+        actions,
+        details,
+        sources,
+        targets,
+        first,
+        next,
+        out,
+        past,
+    );
+    Outcome::Folded { length, pops }
+}
+
+// Question 10, then 11 and the answer.
+fn rewrite_graph(
+    input: &[u8],
+    counts: Counts,
+    kinds: &[u8; limit::NODES],
+    words: &[u64; WORDS],
+    actions: &[u8; limit::NODES],
+    details: &[u16; limit::NODES],
+    pops: usize,
+    out: &mut [u8],
+) -> Outcome
+    requires { ⌜ Settled (now input) counts (now kinds) (now words) (now actions) (now details) pops ⌝ }
+    ensures { λ r. ⌜ Answers (now (input .entry)) (now (out .entry)) (now (out .exit)) r ⌝ }
+{
+    let wires = access::wires(input, counts);
+    let nodes = counts.nodes;
+    let mut sources = [0u16; limit::NODES];
+    let mut targets = [0u16; limit::NODES];
+    let mut first = [0u16; limit::NODES];
+    let mut next = [0u16; limit::WIRES];
+    match rewrite::rewrite(
+        wires,
+        nodes,
+        actions,
+        details,
+        &mut sources,
+        &mut targets,
+        &mut first,
+        &mut next,
+    ) {
+        Rewriting::Endless { index } => {
+            let place = access::wires_offset(input, counts) + wire_records::SIZE * index;
+            Outcome::Refused {
+                number: ENDLESS,
+                place,
+            }
+        }
+        Rewriting::Wires { count } => write_answer(
+            input,
+            counts,
+            kinds,
+            words,
+            actions,
+            details,
+            &sources,
+            &targets,
+            &first,
+            &next,
+            count,
+            pops,
+            out,
+        ),
+    }
+}
+
+// The worklist, question 9, and what follows.
+fn run_worklist(
+    input: &[u8],
+    counts: Counts,
+    table: &[u16; SLOTS],
+    wires: &[u8],
+    feeds_first: &[u16; SLOTS],
+    feeds_next: &[u16; limit::WIRES],
+    first: &[u16; limit::NODES],
+    next: &[u16; limit::WIRES],
+    out: &mut [u8],
+) -> Outcome
+    requires { ⌜ Indexes (now input) counts (now table) (now wires) (now «feeds_first») (now «feeds_next») (now first) (now next) ⌝ }
+    ensures { λ r. ⌜ Answers (now (input .entry)) (now (out .entry)) (now (out .exit)) r ⌝ }
+{
+    let rows = access::rows(input, counts);
+    let mut kinds = [0u8; limit::NODES];
+    let mut words = [0u64; WORDS];
+    let mut actions = [0u8; limit::NODES];
+    let mut details = [0u16; limit::NODES];
+    let Worked::Pops(pops) = worklist::run(
+        input,
+        counts,
+        table,
+        wires,
+        rows,
+        feeds_first,
+        feeds_next,
+        first,
+        next,
+        &mut kinds,
+        &mut words,
+        &mut actions,
+        &mut details,
+    ) else {
+        return Outcome::Refused {
+            number: NO_PLACE,
+            place: 0,
+        };
+    };
+    rewrite_graph(input, counts, &kinds, &words, &actions, &details, pops, out)
+}
+
+// The fold of an accepted input, whose properties the table indexes.
+fn fold_graph(input: &[u8], counts: Counts, table: &[u16; SLOTS], out: &mut [u8]) -> Outcome
+    requires { ⌜ Accepts (now input) counts × Indexed (graphOf (now input) .properties) (now input) (now table) ⌝ }
+    ensures { λ r. ⌜ Answers (now (input .entry)) (now (out .entry)) (now (out .exit)) r ⌝ }
+{
+    let wires = access::wires(input, counts);
+    let nodes = counts.nodes;
+    let mut feeds_first = [0u16; SLOTS];
+    let mut feeds_next = [0u16; limit::WIRES];
+    let mut first = [0u16; limit::NODES];
+    let mut next = [0u16; limit::WIRES];
+    wire_index::link_feeds(wires, nodes, &mut feeds_first, &mut feeds_next);
+    wire_index::link_consumers(wires, nodes, &mut first, &mut next);
+    run_worklist(
+        input,
+        counts,
+        table,
+        wires,
+        &feeds_first,
+        &feeds_next,
+        &first,
+        &next,
+        out,
+    )
+}
+
+// Folds the graph that the input says. The answer is written into `out`; a refusal leaves it as it was.
+pub fn fold(input: &[u8], out: &mut [u8]) -> Outcome
+    ensures result { λ r. ⌜ numbers r ≡ numbersOf (outcome (now (input .entry)) (length (now (out .entry)))) ⌝ }
+    ensures buffer { λ r. ⌜ now (out .exit) ≡ written (outcome (now (input .entry)) (length (now (out .entry)))) (now (out .entry)) ⌝ }
+    ensures fits { λ r. ⌜ numbers r .length ≤ length (now (out .entry)) ⌝ }
+    ensures refusals { λ r. ⌜ Refusals (now (input .entry)) (length (now (out .entry))) (numbers r) ⌝ }
+    ensures offset { λ r. ⌜ (numbers r .number ≡ 9 → EndlessAt (now (input .entry)) (numbers r .place)) ⌝ }
+    ensures order_free { λ r. ⌜ (Accepted (numbers r) → OrderFree (graphOf (now (input .entry)))) ⌝ }
+    ensures answer { λ r. ⌜ (Accepted (numbers r) → AnswerOf (graphOf (now (input .entry))) (take (numbers r .length) (now (out .exit)))) ⌝ }
+    ensures pops { λ r. ⌜ (Accepted (numbers r) → PopsOf (graphOf (now (input .entry))) (numbers r .pops)) ⌝ }
+    ensures finite { λ r. ⌜ (Accepted (numbers r) → FinitePlan (graphOf (now (input .entry)))) ⌝ }
+    ensures clean { λ r. ⌜ (Accepted (numbers r) → CleanWires (graphOf (now (input .entry)))) ⌝ }
+{
+    fold_input(input, out)
+}
+
+fn fold_input(input: &[u8], out: &mut [u8]) -> Outcome
+    ensures { λ r. ⌜ Answers (now (input .entry)) (now (out .entry)) (now (out .exit)) r ⌝ }
+{
+    let mut table = [0u16; SLOTS];
+    match records::decode(input, &mut table) {
+        Decoded::Accepted(counts) => fold_graph(input, counts, &table, out),
+        Decoded::Refused(refusal) => Outcome::Refused {
+            number: refusals::number_of(refusal),
+            place: refusals::place_of(refusal),
+        },
+    }
+}
+
+// `fold` for other languages: the refusal's number, or 0, and document 01's place, length and pops through the pointers.
+#[no_mangle]
+pub extern "C" fn mezburiko_fold(
+    input: &[u8],
+    out: &mut [u8],
+    place: &mut usize,
+    length: &mut usize,
+    pops: &mut usize,
+) -> u8
+    ensures result { λ r. ⌜ record { number = r; place = now (place .exit); length = now (length .exit); pops = now (pops .exit) } ≡ numbersOf (outcome (now (input .entry)) (ListN.length (now (out .entry)))) ⌝ }
+    ensures buffer { λ r. ⌜ now (out .exit) ≡ written (outcome (now (input .entry)) (ListN.length (now (out .entry)))) (now (out .entry)) ⌝ }
+{
+    match fold(input, out) {
+        Outcome::Folded {
+            length: bytes,
+            pops: turns,
+        } => {
+            *place = 0;
+            *length = bytes;
+            *pops = turns;
+            0
+        }
+        Outcome::Refused { number, place: at } => {
+            *place = at;
+            *length = 0;
+            *pops = 0;
+            number
+        }
+    }
+}

@@ -1,0 +1,33 @@
+-- A port of a node by its wires and its property, as the model has it.
+use Prim.Native.Nat.{ℕ, _<_}
+use native.Mathlib.Omega.{arith}
+use mathlib.Core.Path.{_≡_, refl, sym, ap, ap₂, _∙_}
+use mathlib.Core.List.{List}
+use lib.ListN.{length}
+use Rattle.ir.specs.Limits.{maxNodes}
+use Rattle.ir.specs.declared.Wire.{Wire}
+use Rattle.value.specs.declared.Value.{Value}
+use Rattle.value.specs.declared.OptionValue.{OptionValue}
+use Rattle.graph.specs.Graph.{Graph, lookup}
+use Rattle.records.specs.Access.{wiresOf, Bounded}
+use Rattle.model.specs.Maps.{Map}
+use Rattle.model.specs.Inputs.{size, feeds, optional, property, orProperty, resolveWires, resolveInput, resolveDataInput}
+use Rattle.model.specs.declared.Resolved.{Resolved}
+use Rattle.wire_index.specs.Chains.{Feeds}
+use Rattle.inputs.specs.Inputs.{feedsIn, Wired, Inputs}
+
+module _ {g : Graph} {input table wires first next : List ℕ} (i : Inputs g input table wires first next) where
+  pub wired : Wired wires first next
+  wired = record { nodes = size g; bounded = rw (i .wires-part) (i .bounded); chains = rw (i .wires-part) (i .chains) }
+
+  pub few : {n : ℕ} → n < size g → n < maxNodes
+  few h = omega (arith, i .bounded .few-nodes)
+
+  module _ (known : Map Value) (n p : ℕ) where
+    pub wired-port : resolveWires known (feedsIn (wiresOf wires) n p) ≡ resolveInput g known n p
+    unfolding resolveInput feeds feedsIn
+    wired-port = rw (i .wires-part)
+
+    pub data-port : (r : Resolved) (o : OptionValue) → r ≡ resolveWires known (feedsIn (wiresOf wires) n p) → o ≡ lookup n p (g .properties) → orProperty r (optional o) ≡ resolveDataInput g n (resolveInput g known n) p
+    unfolding resolveDataInput property
+    data-port r o e f = ap₂ orProperty (e ∙ wired-port) (ap optional f)

@@ -1,0 +1,68 @@
+-- What a lookup of an input reads, and what the types of the code say in the model's terms.
+use Prim.Native.Nat.{ℕ, _-_}
+use mathlib.Core.Path.{_≡_}
+use mathlib.Core.Bool.{Bool, cond}
+use mathlib.Core.Option.{Option, none, some}
+use mathlib.Core.List.{List}
+use lib.Dec.{eqb}
+use lib.ListN.{getD}
+use Rattle.ir.specs.declared.Wire.{Wire}
+use Rattle.value.specs.declared.Operand.{Operand}
+use Rattle.graph.specs.Graph.{Graph}
+use Rattle.graph.specs.Decode.{graphOf}
+use Rattle.graph.specs.Index.{Indexed}
+use Rattle.records.specs.Access.{wiresOf, Bounded}
+use Rattle.model.specs.Maps.{keep}
+use Rattle.model.specs.Inputs.{size, isPort, resolveInput, resolveDataInput}
+use Rattle.model.specs.declared.Resolved.{Resolved}
+use Rattle.wire_index.specs.Chains.{Feeds as Chains}
+use Rattle.state.specs.Held.{knownOf}
+use Rattle.inputs.specs.declared.Feeds.{Feeds}
+use Rattle.inputs.specs.declared.Feeds.the-variants.{None, One, Many}
+use Rattle.inputs.specs.declared.OptionBool.{OptionBool}
+use Rattle.inputs.specs.declared.OptionOperand.{OptionOperand}
+
+-- ---- wires into a port
+
+-- the wires into a port, in wire order
+unfoldable pub feedsIn : List Wire → ℕ → ℕ → List Wire
+feedsIn ws n p = keep (λ w. isPort (w .target) n p) ws
+
+-- what the chain of a slot says: no wire, the number of the only one, or more
+unfoldable pub feedsOf : List ℕ → List ℕ → ℕ → Feeds
+feedsOf first next slot =
+    let code : ℕ = getD first slot 0 in
+    cond (eqb code 0) None (cond (eqb (getD next (code - 1) 0) 0) (One (code - 1)) Many)
+
+-- the wires of a graph of so many nodes, with their chains
+pub record Wired (wires first next : List ℕ) : Type 0 where
+  pub nodes : ℕ
+  pub bounded : Bounded (wiresOf wires) nodes
+  pub chains : Chains (wiresOf wires) first next
+
+-- ---- inputs
+
+-- the part of `Reads` by which an input is looked up
+pub record Inputs (g : Graph) (input table wires first next : List ℕ) : Type 0 where
+  pub graph : g ≡ graphOf input
+  pub properties : Indexed (g .properties) input table
+  pub wires-part : wiresOf wires ≡ g .wires
+  pub bounded : Bounded (g .wires) (size g)
+  pub chains : Chains (g .wires) first next
+
+-- what the ports of node n have, by their wires, and with the node's properties
+abbrev pub wiredPort : List ℕ → List ℕ → List ℕ → ℕ → ℕ → Resolved
+wiredPort input kinds words n = resolveInput (graphOf input) (knownOf kinds words) n
+
+abbrev pub portOf : List ℕ → List ℕ → List ℕ → ℕ → ℕ → Resolved
+portOf input kinds words n = resolveDataInput (graphOf input) n (wiredPort input kinds words n)
+
+abbrev pub truth : OptionBool → Option Bool
+truth OptionBool.None = none
+truth (OptionBool.Some b) = some b
+
+-- the operand of an input that is not Unresolved
+abbrev pub operandIn : Resolved → OptionOperand
+operandIn Resolved.Unwired = OptionOperand.Some Operand.Unwired
+operandIn (Resolved.Known v) = OptionOperand.Some (Operand.Known v)
+operandIn Resolved.Unresolved = OptionOperand.None

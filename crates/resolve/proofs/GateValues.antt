@@ -1,0 +1,182 @@
+-- The value of a gate, as the model has it.
+use Prim.Native.Nat.{ℕ}
+use native.Mathlib.Omega.{arith}
+use mathlib.Core.Path.{_≡_, refl, sym, ap, ap₂, _∙_}
+use mathlib.Core.Bool.{Bool, true, false, cond, not, _&&_, _||_}
+use mathlib.Core.Option.{Option, none, some}
+use mathlib.Core.List.{List, [], _∷_, map}
+use lib.Dec.{eqb}
+use borrow.Author.Tests.{eqb-true}
+use types.Run.{OneOf, miss}
+use denote.Enum.Declared.{tagOf}
+use Rattle.value.specs.declared.Value.{Value}
+use Rattle.value.specs.declared.Operand.{Operand}
+use Rattle.value.specs.declared.OptionValue.{OptionValue}
+use Rattle.semantics.specs.Eval.{evalOf}
+use Rattle.semantics.specs.Finite.{nonFiniteFloat}
+use Rattle.graph.specs.Graph.{Graph, member}
+use Rattle.table.specs.Table.{annihilatorOf}
+use Rattle.table.specs.declared.AnnihilatorKind.{AnnihilatorKind}
+use Rattle.table.specs.declared.OptionAnnihilator.{OptionAnnihilator}
+use Rattle.model.specs.Maps.{any, orElse}
+use Rattle.model.specs.Inputs.{optional, isResolved, allResolved, operandOf}
+use Rattle.model.specs.Offer.{covers, plannable, evaluated, settles, annihilator, holdsBool, settled, gateValue}
+use Rattle.model.specs.declared.Resolved.{Resolved}
+use Rattle.model.proofs.Resolved.{the-type as resolved-type}
+use Rattle.inputs.specs.Inputs.{operandIn}
+use Rattle.inputs.specs.declared.OptionOperand.{OptionOperand}
+use Rattle.inputs.proofs.Conditions.{operand-none, operand-some}
+use Rattle.resolve.specs.Gives.{covered}
+
+-- ---- operands
+
+module _ (g : Graph) (class : ℕ) (a b c : Operand) {t : Bool} (row : t ≡ covers g class (a ∷ b ∷ c ∷ [])) where
+  pub not-covered : t ≡ false → none ≡ covered g class a b c
+  unfolding covered
+  not-covered e = rw (← row, e)
+
+  module _ {o : OptionValue} (e : t ≡ true) (value : o ≡ evalOf class a b c) where
+    pub gives-none : o ≡ OptionValue.None → none ≡ covered g class a b c
+    unfolding covered
+    gives-none h = rw (← row, e, ← value, h)
+
+    module _ {v : Value} (h : o ≡ OptionValue.Some v) {f : Bool} (finite : f ≡ nonFiniteFloat v) where
+      pub gives-non-finite : f ≡ true → none ≡ covered g class a b c
+      unfolding covered
+      gives-non-finite k = rw (← row, e, ← value, h, ← finite, k)
+
+      pub gives-value : f ≡ false → some v ≡ covered g class a b c
+      unfolding covered
+      gives-value k = rw (← row, e, ← value, h, ← finite, k)
+
+-- ---- inputs
+
+module _ (g : Graph) (class : ℕ) (a b c : Resolved) where
+  pub unresolved-a : {m : OptionOperand} → m ≡ operandIn a → m ≡ OptionOperand.None → none ≡ evaluated g class (a ∷ b ∷ c ∷ [])
+  unfolding evaluated allResolved
+  unresolved-a e h = rw (operand-none a (sym e ∙ h))
+
+  pub unresolved-b : {m : OptionOperand} → m ≡ operandIn b → m ≡ OptionOperand.None → none ≡ evaluated g class (a ∷ b ∷ c ∷ [])
+  unfolding evaluated allResolved
+  unresolved-b e h = rw (operand-none b (sym e ∙ h), and-none (isResolved a))
+    where
+      and-none : (x : Bool) → (x && false) ≡ false
+      and-none true = refl
+      and-none false = refl
+
+  pub unresolved-c : {m : OptionOperand} → m ≡ operandIn c → m ≡ OptionOperand.None → none ≡ evaluated g class (a ∷ b ∷ c ∷ [])
+  unfolding evaluated allResolved
+  unresolved-c e h = rw (operand-none c (sym e ∙ h), and-none (isResolved a) (isResolved b))
+    where
+      and-none : (x y : Bool) → (x && (y && false)) ≡ false
+      and-none true true = refl
+      and-none true false = refl
+      and-none false y = refl
+
+  pub all-resolved : {l m n : OptionOperand} {x y z : Operand} → l ≡ operandIn a → l ≡ OptionOperand.Some x → m ≡ operandIn b → m ≡ OptionOperand.Some y → n ≡ operandIn c → n ≡ OptionOperand.Some z
+      → covered g class x y z ≡ evaluated g class (a ∷ b ∷ c ∷ [])
+  unfolding covered evaluated allResolved
+  all-resolved {x = x} {y = y} {z = z} d e f h i j =
+      let p = operand-some a x (sym d ∙ e) in
+      let q = operand-some b y (sym f ∙ h) in
+      let r = operand-some c z (sym i ∙ j) in
+      rw (p .resolved, q .resolved, r .resolved, p .operand, q .operand, r .operand)
+
+-- ---- annihilators
+
+pub not-bool : (want : Bool) (r : Resolved) → OneOf (0 ∷ 2 ∷ []) (tagOf resolved-type r) → false ≡ holdsBool want r
+not-bool want Resolved.Unwired k = refl
+not-bool want (Resolved.Known v) k = absurd (miss (0 ∷ 2 ∷ []) 1 tt k)
+not-bool want Resolved.Unresolved k = refl
+
+or-first : (x y z : Bool) → ((x || y) || z) ≡ (x || (y || (z || false)))
+or-first true y z = refl
+or-first false true z = refl
+or-first false false true = refl
+or-first false false false = refl
+
+module _ (want : Bool) (a b c : Resolved) {x y z : Bool} (p : x ≡ holdsBool want a) (q : y ≡ holdsBool want b) (r : z ≡ holdsBool want c) where
+  pub settle-some : ((x || y) || z) ≡ true → some (Value.Bool want) ≡ settled (some want) (a ∷ b ∷ c ∷ [])
+  unfolding settled any
+  settle-some e = rw (← p, ← q, ← r, ← or-first x y z, e)
+
+  pub settle-none : ((x || y) || z) ≡ false → none ≡ settled (some want) (a ∷ b ∷ c ∷ [])
+  unfolding settled any
+  settle-none e = rw (← p, ← q, ← r, ← or-first x y z, e)
+
+-- the Bool that an annihilator settles a gate by
+abbrev wants : OptionAnnihilator → Option Bool
+wants OptionAnnihilator.None = none
+wants (OptionAnnihilator.Some AnnihilatorKind.AndFalse) = some false
+wants (OptionAnnihilator.Some AnnihilatorKind.OrTrue) = some true
+
+wants-same : (g : Graph) (class : ℕ) → wants (annihilatorOf (g .annihilators) class) ≡ annihilator g class
+unfolding annihilator settles
+wants-same g class = go (eqb class 12) (eqb class 13) refl refl
+  where
+    is-12 : (m : Bool) → wants (cond m (OptionAnnihilator.Some AnnihilatorKind.AndFalse) OptionAnnihilator.None) ≡ cond m (some false) none
+    is-12 true = refl
+    is-12 false = refl
+
+    is-13 : (m : Bool) → wants (cond m (OptionAnnihilator.Some AnnihilatorKind.OrTrue) OptionAnnihilator.None) ≡ cond m (some true) none
+    is-13 true = refl
+    is-13 false = refl
+
+    other : (m : Bool) → _≡_ {A = Option Bool} none (cond m none none)
+    other true = refl
+    other false = refl
+
+    go : (s t : Bool) → eqb class 12 ≡ s → eqb class 13 ≡ t → wants (annihilatorOf (g .annihilators) class) ≡ cond (member class (g .annihilators)) (cond (eqb class 12) (some false) (cond (eqb class 13) (some true) none)) none
+    go true t e f = rw (eqb-true class 12 e) (is-12 (member 12 (g .annihilators)))
+    go false true e f = rw (eqb-true class 13 f) (is-13 (member 13 (g .annihilators)))
+    go false false e f = rw (e, f) (other (member class (g .annihilators)))
+
+module _ (g : Graph) (class : ℕ) (is : List Resolved) {m : OptionAnnihilator} (e : m ≡ annihilatorOf (g .annihilators) class) where
+  same : (x : OptionAnnihilator) → m ≡ x → wants x ≡ annihilator g class
+  same x h = ap wants (sym h ∙ e) ∙ wants-same g class
+
+  pub annihilator-none : m ≡ OptionAnnihilator.None → none ≡ settled (annihilator g class) is
+  unfolding settled
+  annihilator-none h = rw (← same OptionAnnihilator.None h)
+
+  module _ {k : AnnihilatorKind} (h : m ≡ OptionAnnihilator.Some k) (o : Option Value) where
+    pub and-false : k ≡ AnnihilatorKind.AndFalse → o ≡ settled (some false) is → o ≡ settled (annihilator g class) is
+    and-false l s = rw (← same (OptionAnnihilator.Some AnnihilatorKind.AndFalse) (h ∙ ap OptionAnnihilator.Some l)) s
+
+    pub or-true : k ≡ AnnihilatorKind.OrTrue → o ≡ settled (some true) is → o ≡ settled (annihilator g class) is
+    or-true l s = rw (← same (OptionAnnihilator.Some AnnihilatorKind.OrTrue) (h ∙ ap OptionAnnihilator.Some l)) s
+
+-- ---- a gate
+
+module _ (g : Graph) (class : ℕ) (is : List Resolved) (o : OptionValue) (e : optional o ≡ evaluated g class is) where
+  pub gate-settled : (s : Option Value) → o ≡ OptionValue.None → s ≡ settled (annihilator g class) is → s ≡ gateValue g class is
+  unfolding gateValue orElse
+  gate-settled s h f = rw (← e, h) f
+
+  pub gate-evaluated : {v : Value} → o ≡ OptionValue.Some v → some v ≡ gateValue g class is
+  unfolding gateValue orElse
+  gate-evaluated h = rw (← e, h)
+
+-- a gate of one, two and three inputs
+module _ (g : Graph) (class : ℕ) {a x : Resolved} (p : a ≡ x) where
+  settled-one : (o : Option Bool) → settled o (x ∷ Resolved.Unwired ∷ Resolved.Unwired ∷ []) ≡ settled o (x ∷ [])
+  unfolding settled any
+  settled-one none = refl
+  settled-one (some b) = refl
+
+  pub one-input : {o : Option Value} → o ≡ gateValue g class (a ∷ Resolved.Unwired ∷ Resolved.Unwired ∷ []) → o ≡ gateValue g class (x ∷ [])
+  unfolding gateValue evaluated allResolved covers
+  one-input e = (rw p at e) ∙ ap (orElse (evaluated g class (x ∷ []))) (settled-one (annihilator g class))
+
+  module _ {b y : Resolved} (q : b ≡ y) where
+    settled-two : (o : Option Bool) → settled o (x ∷ y ∷ Resolved.Unwired ∷ []) ≡ settled o (x ∷ y ∷ [])
+    unfolding settled any
+    settled-two none = refl
+    settled-two (some b) = refl
+
+    pub two-inputs : {o : Option Value} → o ≡ gateValue g class (a ∷ b ∷ Resolved.Unwired ∷ []) → o ≡ gateValue g class (x ∷ y ∷ [])
+    unfolding gateValue evaluated allResolved covers
+    two-inputs e = (rw (p, q) at e) ∙ ap (orElse (evaluated g class (x ∷ y ∷ []))) (settled-two (annihilator g class))
+
+    pub three-inputs : {o : Option Value} {c z : Resolved} → c ≡ z → o ≡ gateValue g class (a ∷ b ∷ c ∷ []) → o ≡ gateValue g class (x ∷ y ∷ z ∷ [])
+    three-inputs r e = rw (p, q, r) at e

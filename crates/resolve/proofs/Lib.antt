@@ -1,0 +1,2 @@
+pub mod GateValues
+pub mod Trials

@@ -1,0 +1,173 @@
+-- `resolve::try_resolve` meets its contract.
+use native.Mathlib.Omega.{arith}
+use mathlib.Core.Path.{_∙_, ap}
+use Rattle.inputs.proofs.Ports.{wired, few, wired-port}
+use Rattle.model.specs.declared.Resolved.{Resolved}
+use Rattle.model.specs.Offer.{valueOffer, literalOffer}
+use Rattle.model.specs.Inputs.{size, optional, valueIn, property}
+use Rattle.value.specs.declared.OptionValue.{OptionValue}
+use Rattle.resolve.proofs.Trials.{inputs, node-is, gives, never-folded, never, literal, microchip, select, branch, unary, binary, ternary}
+use Rattle.resolve.proofs.try_resolve.Statement.{statement}
+use Rattle.resolve.proofs.try_resolve.Tie as tie
+
+node-requires : tie.Need-node-requires
+unfolding size
+node-requires c κs = c .before .before .before .pre .1
+
+is-nofold-requires : tie.Need-is-nofold-requires
+is-nofold-requires c κs = tt
+
+returns : tie.Need-returns
+returns c = (never-folded _ _ _ (c .before .before .node .ensures ∙ node-is _ _ (c .before .before .before .before .before .before .pre .1)) (c .before .is-nofold .ensures) (c .if1 .taken), tt)
+
+folding-of-requires : tie.Need-folding-of-requires
+folding-of-requires c κs = tt
+
+enum-told : tie.Need-enum-told
+enum-told c = c .match .keys1
+
+enum-told-2 : tie.Need-enum-told-2
+enum-told-2 c = c .match .keys2
+
+property-requires : tie.Need-property-requires
+property-requires c κs =
+    let p = c .before .before .before .before .before .before .before .before .before .pre in
+    (few (inputs (p .0)) (p .1), omega arith, p .0 .properties)
+
+known-requires : tie.Need-known-requires
+known-requires c κs = tt
+
+enum-told-3 : tie.Need-enum-told-3
+enum-told-3 c = c .match .keys3
+
+resolve-input-requires : tie.Need-resolve-input-requires
+resolve-input-requires c κs =
+    let p = c .before .before .before .before .before .before .before .before .before .pre in
+    (wired (inputs (p .0)), few (inputs (p .0)) (p .1), omega arith)
+
+passed-requires : tie.Need-passed-requires
+passed-requires c κs = tt
+
+enum-told-4 : tie.Need-enum-told-4
+enum-told-4 c = c .match .keys4
+
+try-resolve-select-requires : tie.Need-try-resolve-select-requires
+try-resolve-select-requires c κs =
+    let p = c .before .before .before .before .before .before .before .before .before .pre in
+    (inputs (p .0), p .0 .rows-part, p .1)
+
+enum-told-5 : tie.Need-enum-told-5
+enum-told-5 c = c .match .keys5
+
+try-resolve-branch-requires : tie.Need-try-resolve-branch-requires
+try-resolve-branch-requires c κs =
+    let p = c .before .before .before .before .before .before .before .before .before .pre in
+    (inputs (p .0), p .0 .rows-part, p .1)
+
+enum-told-6 : tie.Need-enum-told-6
+enum-told-6 c = c .match .keys6
+
+unary-requires : tie.Need-unary-requires
+unary-requires c κs = c .before .before .before .before .before .before .before .before .before .pre
+
+become-literal-requires : tie.Need-become-literal-requires
+become-literal-requires c κs = tt
+
+enum-told-7 : tie.Need-enum-told-7
+enum-told-7 c = c .match .keys7
+
+binary-requires : tie.Need-binary-requires
+binary-requires c κs = c .before .before .before .before .before .before .before .before .before .pre
+
+become-literal-requires-2 : tie.Need-become-literal-requires-2
+become-literal-requires-2 c κs = tt
+
+enum-told-8 : tie.Need-enum-told-8
+enum-told-8 c = c .match .keys8
+
+ternary-requires : tie.Need-ternary-requires
+ternary-requires c κs = c .before .before .before .before .before .before .before .before .before .pre
+
+become-literal-requires-3 : tie.Need-become-literal-requires-3
+become-literal-requires-3 c κs = tt
+
+returns-2 : tie.Need-returns-2
+returns-2 c = (never _ _ _ (c .before .before .before .before .before .node .ensures ∙ node-is _ _ (c .before .before .before .before .before .before .before .before .before .pre .1)) (c .before .before .before .before .is-nofold .ensures) (c .before .before .before .if1 .left) (c .before .before .folding-of .ensures) (c .enum-told .given .1), tt)
+
+returns-3 : tie.Need-returns-3
+unfolding property
+returns-3 c =
+    gives _ _ _ (c .known .ensures _ _)
+    (ap (λ (o : OptionValue). valueOffer (optional o)) (c .before .property .ensures)
+    ∙ literal _ _ _ (c .before .before .before .before .before .before .before .node .ensures ∙ node-is _ _ (c .before .before .before .before .before .before .before .before .before .before .before .pre .1)) (c .before .before .before .before .before .before .is-nofold .ensures) (c .before .before .before .before .before .if1 .left) (c .before .before .before .before .folding-of .ensures) (c .before .before .enum-told2 .given .1))
+
+returns-4 : tie.Need-returns-4
+returns-4 c =
+    gives _ _ _ (c .passed .ensures _ _)
+    (ap (λ (r : Resolved). valueOffer (valueIn r)) (c .before .resolve-input .ensures ∙ wired-port (inputs (c .before .before .before .before .before .before .before .before .before .before .before .pre .0)) _ _ _)
+    ∙ microchip _ _ _ (c .before .before .before .before .before .before .before .node .ensures ∙ node-is _ _ (c .before .before .before .before .before .before .before .before .before .before .before .pre .1)) (c .before .before .before .before .before .before .is-nofold .ensures) (c .before .before .before .before .before .if1 .left) (c .before .before .before .before .folding-of .ensures) (c .before .before .enum-told3 .given .1))
+
+returns-5 : tie.Need-returns-5
+returns-5 c =
+    gives _ _ _ (c .try-resolve-select .ensures)
+    (select _ _ _ (c .before .before .before .before .before .before .node .ensures ∙ node-is _ _ (c .before .before .before .before .before .before .before .before .before .before .pre .1)) (c .before .before .before .before .before .is-nofold .ensures) (c .before .before .before .before .if1 .left) (c .before .before .before .folding-of .ensures) (c .before .enum-told4 .given .1))
+
+returns-6 : tie.Need-returns-6
+returns-6 c =
+    gives _ _ _ (c .try-resolve-branch .ensures)
+    (branch _ _ _ (c .before .before .before .before .before .before .node .ensures ∙ node-is _ _ (c .before .before .before .before .before .before .before .before .before .before .pre .1)) (c .before .before .before .before .before .is-nofold .ensures) (c .before .before .before .before .if1 .left) (c .before .before .before .folding-of .ensures) (c .before .enum-told5 .given .1))
+
+returns-7 : tie.Need-returns-7
+returns-7 c =
+    gives _ _ _ (c .become-literal .ensures _ _)
+    (ap literalOffer (c .before .unary .ensures)
+    ∙ unary _ _ _ (c .before .before .before .before .before .before .before .node .ensures ∙ node-is _ _ (c .before .before .before .before .before .before .before .before .before .before .before .pre .1)) (c .before .before .before .before .before .before .is-nofold .ensures) (c .before .before .before .before .before .if1 .left) (c .before .before .before .before .folding-of .ensures) (c .before .before .enum-told6 .given .1))
+
+returns-8 : tie.Need-returns-8
+returns-8 c =
+    gives _ _ _ (c .become-literal2 .ensures _ _)
+    (ap literalOffer (c .before .binary .ensures)
+    ∙ binary _ _ _ (c .before .before .before .before .before .before .before .node .ensures ∙ node-is _ _ (c .before .before .before .before .before .before .before .before .before .before .before .pre .1)) (c .before .before .before .before .before .before .is-nofold .ensures) (c .before .before .before .before .before .if1 .left) (c .before .before .before .before .folding-of .ensures) (c .before .before .enum-told7 .given .1))
+
+returns-9 : tie.Need-returns-9
+returns-9 c =
+    gives _ _ _ (c .become-literal3 .ensures _ _)
+    (ap literalOffer (c .before .ternary .ensures)
+    ∙ ternary _ _ _ (c .before .before .before .before .before .before .before .node .ensures ∙ node-is _ _ (c .before .before .before .before .before .before .before .before .before .before .before .pre .1)) (c .before .before .before .before .before .before .is-nofold .ensures) (c .before .before .before .before .before .if1 .left) (c .before .before .before .before .folding-of .ensures) (c .before .before .enum-told8 .given .1))
+
+pub try-resolve-spec : {M : Type 1} → statement M
+try-resolve-spec =
+    tie.close
+    (tie.spec
+    node-requires
+    is-nofold-requires
+    returns
+    folding-of-requires
+    enum-told
+    enum-told-2
+    property-requires
+    known-requires
+    enum-told-3
+    resolve-input-requires
+    passed-requires
+    enum-told-4
+    try-resolve-select-requires
+    enum-told-5
+    try-resolve-branch-requires
+    enum-told-6
+    unary-requires
+    become-literal-requires
+    enum-told-7
+    binary-requires
+    become-literal-requires-2
+    enum-told-8
+    ternary-requires
+    become-literal-requires-3
+    returns-2
+    returns-3
+    returns-4
+    returns-5
+    returns-6
+    returns-7
+    returns-8
+    returns-9)

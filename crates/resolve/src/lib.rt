@@ -1,0 +1,252 @@
+// The trial of one node: what its inputs have by what is known, and the value or the plan that this gives it.
+mod gates;
+
+use graph::Counts;
+use graph::SLOTS;
+use inputs::Feeds;
+use inputs::OptionBool;
+use ir::Folding;
+use ir::class;
+use ir::flag;
+use ir::limit;
+use ir::port;
+use model::Resolved;
+use records::access;
+use state::Trial;
+use state::WORDS;
+use value::OptionValue;
+ghost use mathlib.Core.Path.{_≡_};
+ghost use mathlib.Core.Bool.{cond};
+ghost use Prim.Native.Nat.{ℕ, _≤_, _<_};
+ghost use Rattle.ir.specs.Ports.{inputA, inputB, bSelectB, bCond, execOutA, execOutB, valuePort};
+ghost use Rattle.graph.specs.Graph.{Graph};
+ghost use Rattle.graph.specs.Decode.{graphOf};
+ghost use Rattle.records.specs.Access.{rowsOf};
+ghost use Rattle.model.specs.Inputs.{size, optional, valueIn};
+ghost use Rattle.model.specs.Offer.{offer, literals, valueOffer, literalOffer, selectOffer, branchOffer, resolveCondition};
+ghost use Rattle.state.specs.Held.{knownOf};
+ghost use Rattle.state.specs.Trials.{offerOf, Within};
+ghost use Rattle.resolve.specs.Reads.{Reads};
+ghost use Rattle.inputs.specs.Inputs.{Inputs, wiredPort, portOf};
+ghost use Rattle.resolve.specs.Gives.{Gives};
+
+// A value without a plan.
+fn known(value: OptionValue) -> Trial
+    ensures { λ r. ⌜ ((g : Graph) (n : ℕ) → Gives g n (valueOffer (optional value)) r) ⌝ }
+{
+    let OptionValue::Some(v) = value else {
+        return Trial::Nothing;
+    };
+    Trial::Known(v)
+}
+
+// The value that a Microchip node passes on: that of its one wire's source.
+fn passed(input: Resolved) -> Trial
+    ensures { λ r. ⌜ ((g : Graph) (n : ℕ) → Gives g n (valueOffer (valueIn input)) r) ⌝ }
+{
+    let Resolved::Known(v) = input else {
+        return Trial::Nothing;
+    };
+    Trial::Known(v)
+}
+
+// A value, planned as literal.
+fn become_literal(value: OptionValue) -> Trial
+    ensures { λ r. ⌜ ((g : Graph) (n : ℕ) → Gives g n (literalOffer (optional value)) r) ⌝ }
+{
+    let OptionValue::Some(v) = value else {
+        return Trial::Nothing;
+    };
+    Trial::BecomeLiteral(v)
+}
+
+fn chosen_port(truthy: bool) -> u8
+    ensures { λ r. ⌜ (r ≡ cond truthy inputB inputA) × (r ≤ valuePort) ⌝ }
+{
+    if truthy { port::INPUT_B } else { port::INPUT_A }
+}
+
+fn taken_port(truthy: bool) -> u8
+    ensures { λ r. ⌜ r ≡ cond truthy execOutA execOutB ⌝ }
+{
+    if truthy {
+        port::EXEC_OUT_A
+    } else {
+        port::EXEC_OUT_B
+    }
+}
+
+// A Select, once its condition is resolved: shorted to the source of the one wire at the chosen port, and known once that is.
+fn try_resolve_select(
+    input: &[u8],
+    table: &[u16; SLOTS],
+    wires: &[u8],
+    rows: &[u8],
+    first: &[u16; SLOTS],
+    next: &[u16; limit::WIRES],
+    kinds: &[u8; limit::NODES],
+    words: &[u64; WORDS],
+    n: usize,
+    class: u8,
+) -> Trial
+    requires { ⌜ Inputs (graphOf (now input)) (now input) (now table) (now wires) (now first) (now next) × (rowsOf (now rows) ≡ graphOf (now input) .rows) × (n < size (graphOf (now input))) ⌝ }
+    ensures { λ r. ⌜ Gives (graphOf (now (input .entry))) n (selectOffer (graphOf (now (input .entry))) n (wiredPort (now (input .entry)) (now (kinds .entry)) (now (words .entry)) n) (resolveCondition (graphOf (now (input .entry))) class (portOf (now (input .entry)) (now (kinds .entry)) (now (words .entry)) n bSelectB))) r ⌝ }
+{
+    let OptionBool::Some(truthy) = inputs::resolve_condition(
+        input,
+        table,
+        wires,
+        rows,
+        first,
+        next,
+        kinds,
+        words,
+        n,
+        port::B_SELECT_B,
+        class,
+    ) else {
+        return Trial::Nothing;
+    };
+    let Feeds::One(chosen) = inputs::feeds_of(first, next, n, chosen_port(truthy)) else {
+        return Trial::Nothing;
+    };
+    let OptionValue::Some(value) = inputs::source_value(wires, kinds, words, chosen) else {
+        return Trial::ShortCircuit { chosen };
+    };
+    Trial::ShortCircuitKnown { chosen, value }
+}
+
+// A Branch, once its condition is resolved: cut down to the targets of the taken port.
+fn try_resolve_branch(
+    input: &[u8],
+    table: &[u16; SLOTS],
+    wires: &[u8],
+    rows: &[u8],
+    first: &[u16; SLOTS],
+    next: &[u16; limit::WIRES],
+    kinds: &[u8; limit::NODES],
+    words: &[u64; WORDS],
+    n: usize,
+    class: u8,
+) -> Trial
+    requires { ⌜ Inputs (graphOf (now input)) (now input) (now table) (now wires) (now first) (now next) × (rowsOf (now rows) ≡ graphOf (now input) .rows) × (n < size (graphOf (now input))) ⌝ }
+    ensures { λ r. ⌜ Gives (graphOf (now (input .entry))) n (branchOffer (graphOf (now (input .entry))) n (resolveCondition (graphOf (now (input .entry))) class (portOf (now (input .entry)) (now (kinds .entry)) (now (words .entry)) n bCond))) r ⌝ }
+{
+    let OptionBool::Some(truthy) = inputs::resolve_condition(
+        input,
+        table,
+        wires,
+        rows,
+        first,
+        next,
+        kinds,
+        words,
+        n,
+        port::B_COND,
+        class,
+    ) else {
+        return Trial::Nothing;
+    };
+    Trial::Truncate {
+        taken: taken_port(truthy),
+    }
+}
+
+// What the trial of node n gives, by what is known.
+pub fn try_resolve(
+    input: &[u8],
+    counts: Counts,
+    table: &[u16; SLOTS],
+    wires: &[u8],
+    rows: &[u8],
+    first: &[u16; SLOTS],
+    next: &[u16; limit::WIRES],
+    kinds: &[u8; limit::NODES],
+    words: &[u64; WORDS],
+    n: usize,
+) -> Trial
+    requires { ⌜ Reads (graphOf (now input)) counts (now input) (now table) (now wires) (now rows) (now first) (now next) × (n < size (graphOf (now input))) ⌝ }
+    ensures { λ r. ⌜ (offerOf (graphOf (now (input .entry))) n r ≡ offer (literals (graphOf (now (input .entry)))) (graphOf (now (input .entry))) (knownOf (now (kinds .entry)) (now (words .entry))) n) × Within (graphOf (now (input .entry))) r ⌝ }
+{
+    let node = access::node(input, n);
+    if flag::is_nofold(node.flags) {
+        return Trial::Nothing;
+    }
+    let class = node.class;
+    match class::folding_of(class) {
+        Folding::Never => Trial::Nothing,
+        Folding::Literal => known(access::property(input, table, n, port::VALUE)),
+        Folding::Microchip => passed(inputs::resolve_input(
+            wires,
+            first,
+            next,
+            kinds,
+            words,
+            n,
+            port::RER_INPUT,
+        )),
+        Folding::Select => try_resolve_select(
+            input,
+            table,
+            wires,
+            rows,
+            first,
+            next,
+            kinds,
+            words,
+            n,
+            class,
+        ),
+        Folding::Branch => try_resolve_branch(
+            input,
+            table,
+            wires,
+            rows,
+            first,
+            next,
+            kinds,
+            words,
+            n,
+            class,
+        ),
+        Folding::Unary => become_literal(gates::unary(
+            input,
+            counts,
+            table,
+            wires,
+            rows,
+            first,
+            next,
+            kinds,
+            words,
+            n,
+            class,
+        )),
+        Folding::Binary => become_literal(gates::binary(
+            input,
+            counts,
+            table,
+            wires,
+            rows,
+            first,
+            next,
+            kinds,
+            words,
+            n,
+            class,
+        )),
+        Folding::Ternary => become_literal(gates::ternary(
+            input,
+            counts,
+            table,
+            wires,
+            rows,
+            first,
+            next,
+            kinds,
+            words,
+            n,
+            class,
+        )),
+    }
+}

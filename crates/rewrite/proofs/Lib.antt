@@ -1,0 +1,13 @@
+pub mod Shapes
+pub mod Follow
+pub mod Jumping
+pub mod Origins
+pub mod Linking
+pub mod Totals
+pub mod Rounds
+pub mod Searching
+pub mod Walking
+pub mod Steps
+pub mod Counting
+pub mod Visits
+pub mod Tallying

@@ -1,0 +1,9 @@
+pub mod Sources
+pub mod Jumps
+pub mod Counts
+pub mod Taken
+pub mod Live
+pub mod Linked
+pub mod Search
+pub mod Rewritable
+pub mod Tallied

@@ -1,0 +1,42 @@
+-- `state::composite_of` meets its contract.
+use borrow.Author.Tests.{eq-eqb, ne-eqb}
+use borrow.Author.Needs.{needs}
+use Rattle.state.proofs.composite_of.Statement.{statement}
+use Rattle.state.proofs.composite_of.Tie as tie
+
+from-bits-requires : tie.Need-from-bits-requires
+from-bits-requires c κs = search needs
+
+from-bits-requires-2 : tie.Need-from-bits-requires-2
+from-bits-requires-2 c κs = search needs
+
+from-bits-requires-3 : tie.Need-from-bits-requires-3
+from-bits-requires-3 c κs = search needs
+
+returns : tie.Need-returns
+returns c = simp (eq-eqb _ _ (c .if1 .taken), c .before .before .before .from-bits .ensures, c .before .before .from-bits2 .ensures, c .before .from-bits3 .ensures)
+
+returns-2 : tie.Need-returns-2
+returns-2 c = simp (ne-eqb _ _ (c .before .if1 .left), eq-eqb _ _ (c .if2 .taken), c .before .before .before .before .from-bits .ensures, c .before .before .before .from-bits2 .ensures, c .before .before .from-bits3 .ensures)
+
+from-bits-requires-4 : tie.Need-from-bits-requires-4
+from-bits-requires-4 c κs = search needs
+
+returns-3 : tie.Need-returns-3
+returns-3 c = simp (ne-eqb _ _ (c .before .before .before .if1 .left), ne-eqb _ _ (c .before .before .if2 .left), eq-eqb _ _ (c .if3 .taken), c .before .before .before .before .before .before .from-bits .ensures, c .before .before .before .before .before .from-bits2 .ensures, c .before .before .before .before .from-bits3 .ensures, c .before .from-bits4 .ensures)
+
+returns-4 : tie.Need-returns-4
+returns-4 c = simp (ne-eqb _ _ (c .before .before .before .if1 .left), ne-eqb _ _ (c .before .before .if2 .left), ne-eqb _ _ (c .if3 .left), c .before .before .before .before .before .before .from-bits .ensures, c .before .before .before .before .before .from-bits2 .ensures, c .before .before .before .before .from-bits3 .ensures, c .before .from-bits4 .ensures)
+
+pub composite-of-spec : {M : Type 1} → statement M
+composite-of-spec =
+    tie.close
+    (tie.spec
+    from-bits-requires
+    from-bits-requires-2
+    from-bits-requires-3
+    returns
+    returns-2
+    from-bits-requires-4
+    returns-3
+    returns-4)

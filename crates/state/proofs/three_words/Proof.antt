@@ -1,0 +1,21 @@
+-- `state::three_words` meets its contract.
+use borrow.Author.Needs.{needs}
+use Rattle.state.proofs.Values.{float-back}
+use Rattle.state.proofs.three_words.Statement.{statement}
+use Rattle.state.proofs.three_words.Tie as tie
+
+to-bits-requires : tie.Need-to-bits-requires
+to-bits-requires c κs = search needs
+
+to-bits-requires-2 : tie.Need-to-bits-requires-2
+to-bits-requires-2 c κs = search needs
+
+to-bits-requires-3 : tie.Need-to-bits-requires-3
+to-bits-requires-3 c κs = search needs
+
+returns : tie.Need-returns
+returns c = record { first = float-back (search needs) (c .before .before .to-bits .ensures); second = float-back (search needs) (c .before .to-bits2 .ensures); third = float-back (search needs) (c .to-bits3 .ensures) }
+
+pub three-words-spec : {M : Type 1} → statement M
+three-words-spec =
+    tie.close (tie.spec to-bits-requires to-bits-requires-2 to-bits-requires-3 returns)

@@ -1,0 +1,48 @@
+-- `state::value_of` meets its contract.
+use mathlib.Core.Path.{_∙_, ap, sym}
+use mir.Facts.{toZ-ofZ}
+use mir.Syntax.{w64}
+use borrow.Author.Tests.{eq-eqb, ne-eqb}
+use borrow.Author.Needs.{needs}
+use Rattle.value.specs.declared.Value.{Value}
+use Rattle.value.specs.declared.Value.the-variants.{Int}
+use Rattle.state.specs.Held.{heldValue}
+use Rattle.state.proofs.Values.{held-composite}
+use Rattle.state.proofs.value_of.Statement.{statement}
+use Rattle.state.proofs.value_of.Tie as tie
+
+from-bits-requires : tie.Need-from-bits-requires
+from-bits-requires c κs = search needs
+
+returns : tie.Need-returns
+unfolding heldValue
+returns c = ap {B = Value} Int (toZ-ofZ {w = w64} {z = c .from-bits .result} (search needs) ∙ c .from-bits .ensures) ∙ simp (eq-eqb _ _ (c .before .if1 .taken))
+
+from-bits-requires-2 : tie.Need-from-bits-requires-2
+from-bits-requires-2 c κs = search needs
+
+returns-2 : tie.Need-returns-2
+unfolding heldValue
+returns-2 c = simp (ne-eqb _ _ (c .before .before .if1 .left), eq-eqb _ _ (c .before .if2 .taken), c .from-bits2 .ensures)
+
+returns-3 : tie.Need-returns-3
+unfolding heldValue
+returns-3 c = simp (ne-eqb _ _ (c .before .before .if1 .left), ne-eqb _ _ (c .before .if2 .left), eq-eqb _ _ (c .if3 .taken))
+
+composite-of-requires : tie.Need-composite-of-requires
+composite-of-requires c κs = search needs
+
+returns-4 : tie.Need-returns-4
+returns-4 c = c .composite-of .ensures ∙ sym (held-composite _ _ _ _ _ (c .before .before .before .if1 .left) (c .before .before .if2 .left) (c .before .if3 .left))
+
+pub value-of-spec : {M : Type 1} → statement M
+value-of-spec =
+    tie.close
+    (tie.spec
+    from-bits-requires
+    returns
+    from-bits-requires-2
+    returns-2
+    returns-3
+    composite-of-requires
+    returns-4)

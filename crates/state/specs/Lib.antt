@@ -1,0 +1,4 @@
+pub mod Held
+pub mod Planned
+pub mod Trials
+pub mod Stores

@@ -1,0 +1,264 @@
+// What is known and planned, held in arrays by node number.
+use encoding::values;
+use ir::kind;
+use ir::limit;
+use value::OptionValue;
+use value::Value;
+ghost use mathlib.Core.Path.{_≡_};
+ghost use mathlib.Core.List.{List};
+ghost use mathlib.Core.Option.{none};
+ghost use Prim.Native.Nat.{ℕ, _<_};
+ghost use lib.Dec.{eqb};
+ghost use Rattle.ir.specs.Limits.{maxNodes};
+ghost use Rattle.encoding.specs.Values.{kindOf};
+ghost use Rattle.graph.specs.Graph.{Graph};
+ghost use Rattle.model.specs.Maps.{isSome};
+ghost use Rattle.model.specs.Inputs.{optional, size};
+ghost use Rattle.model.specs.Trial.{State, empty, add};
+ghost use Rattle.state.specs.Held.{heldValue, heldComposite, knownOf};
+ghost use Rattle.state.specs.Planned.{Holds};
+ghost use Rattle.state.specs.Trials.{offerOf, Within};
+ghost use Rattle.state.specs.Stores.{ThreeFloats, FourFloats, Learnt, Planned};
+
+// A known value is held as the kind of its record and up to four words; kind 0 says that nothing is known. What is planned of a node is one
+// of these, with a detail: the number of the chosen wire, or the taken port.
+pub const KEPT: u8 = 0;
+
+pub const BECOME_LITERAL: u8 = 1;
+
+pub const SHORT_CIRCUIT: u8 = 2;
+
+pub const TRUNCATE: u8 = 3;
+
+// The words of all nodes, and of one.
+pub const WORDS: usize = 4096;
+
+const WIDTH: usize = 4;
+
+pub const UNKNOWN: u8 = 0;
+
+// What a trial gives a node: a value, a plan, both, or nothing. A wire is named by its number.
+pub enum Trial {
+    Nothing,
+    Known(Value),
+    BecomeLiteral(Value),
+    ShortCircuit { chosen: u16 },
+    ShortCircuitKnown { chosen: u16, value: Value },
+    Truncate { taken: u8 },
+}
+
+// The words that hold a value.
+struct Words {
+    a: u64,
+    b: u64,
+    c: u64,
+    d: u64,
+}
+
+fn composite_of(kind: u8, a: u64, b: u64, c: u64, d: u64) -> Value
+    ensures { λ r. ⌜ r ≡ heldComposite kind a b c d ⌝ }
+{
+    let x = ieee::from_bits(a);
+    let y = ieee::from_bits(b);
+    let z = ieee::from_bits(c);
+    if kind == kind::VECTOR {
+        return Value::Vector { x, y, z };
+    }
+    if kind == kind::ROTATOR {
+        return Value::Rotator {
+            pitch: x,
+            yaw: y,
+            roll: z,
+        };
+    }
+    let w = ieee::from_bits(d);
+    if kind == kind::QUAT {
+        return Value::Quat { x, y, z, w };
+    }
+    Value::Color {
+        r: x,
+        g: y,
+        b: z,
+        a: w,
+    }
+}
+
+// The value of a kind that these words hold.
+fn value_of(kind: u8, a: u64, b: u64, c: u64, d: u64) -> Value
+    ensures { λ r. ⌜ r ≡ heldValue kind a b c d ⌝ }
+{
+    if kind == kind::INT {
+        return Value::Int(whole::from_bits(a));
+    }
+    if kind == kind::FLOAT {
+        return Value::Float(ieee::from_bits(a));
+    }
+    if kind == kind::BOOL {
+        return Value::Bool(a == 1);
+    }
+    composite_of(kind, a, b, c, d)
+}
+
+fn three_words(x: f64, y: f64, z: f64) -> Words
+    ensures { λ r. ⌜ ThreeFloats r x y z ⌝ }
+{
+    Words {
+        a: ieee::to_bits(x),
+        b: ieee::to_bits(y),
+        c: ieee::to_bits(z),
+        d: 0,
+    }
+}
+
+fn four_words(x: f64, y: f64, z: f64, w: f64) -> Words
+    ensures { λ r. ⌜ FourFloats r x y z w ⌝ }
+{
+    Words {
+        a: ieee::to_bits(x),
+        b: ieee::to_bits(y),
+        c: ieee::to_bits(z),
+        d: ieee::to_bits(w),
+    }
+}
+
+fn one_word(a: u64) -> Words
+    ensures { λ r. ⌜ r ≡ record { a = a; b = 0; c = 0; d = 0 } ⌝ }
+{
+    Words {
+        a,
+        b: 0,
+        c: 0,
+        d: 0,
+    }
+}
+
+fn bool_word(b: bool) -> u64
+    ensures { λ r. ⌜ eqb r 1 ≡ b ⌝ }
+{
+    if b { 1 } else { 0 }
+}
+
+fn words_of(v: Value) -> Words
+    ensures { λ r. ⌜ heldValue (kindOf v) (r .a) (r .b) (r .c) (r .d) ≡ v ⌝ }
+{
+    match v {
+        Value::Int(n) => one_word(whole::to_bits(n)),
+        Value::Float(x) => one_word(ieee::to_bits(x)),
+        Value::Bool(b) => one_word(bool_word(b)),
+        Value::Vector { x, y, z } => three_words(x, y, z),
+        Value::Rotator { pitch, yaw, roll } => three_words(pitch, yaw, roll),
+        Value::Quat { x, y, z, w } => four_words(x, y, z, w),
+        Value::Color { r, g, b, a } => four_words(r, g, b, a),
+    }
+}
+
+pub fn is_known(kinds: &[u8; limit::NODES], n: usize) -> bool
+    requires { ⌜ n < maxNodes ⌝ }
+    ensures { λ r. ⌜ ((words : List ℕ) → r ≡ isSome (knownOf (now (kinds .entry)) words n)) ⌝ }
+{
+    kinds[n] != UNKNOWN
+}
+
+// What is known of a node.
+pub fn load(kinds: &[u8; limit::NODES], words: &[u64; WORDS], n: usize) -> OptionValue
+    requires { ⌜ n < maxNodes ⌝ }
+    ensures { λ r. ⌜ optional r ≡ knownOf (now (kinds .entry)) (now (words .entry)) n ⌝ }
+{
+    let kind = kinds[n];
+    if kind == UNKNOWN {
+        return OptionValue::None;
+    }
+    let at = WIDTH * n;
+    OptionValue::Some(value_of(kind, words[at], words[at + 1], words[at + 2], words[at + 3]))
+}
+
+// Clears the arrays: nothing is known and nothing planned.
+pub fn clear(
+    kinds: &mut [u8; limit::NODES],
+    words: &mut [u64; WORDS],
+    actions: &mut [u8; limit::NODES],
+    details: &mut [u16; limit::NODES],
+)
+    ensures { λ _. ⌜ ((g : Graph) → Holds g (now (kinds .exit)) (now (words .exit)) (now (actions .exit)) (now (details .exit)) empty) ⌝ }
+{
+    *kinds = [UNKNOWN; limit::NODES];
+    *words = [0u64; WORDS];
+    *actions = [KEPT; limit::NODES];
+    *details = [0u16; limit::NODES];
+}
+
+fn learn(kinds: &mut [u8; limit::NODES], words: &mut [u64; WORDS], n: usize, v: Value)
+    requires { ⌜ n < maxNodes ⌝ }
+    ensures { λ _. ⌜ Learnt v n (now (kinds .entry)) (now (words .entry)) (now (kinds .exit)) (now (words .exit)) ⌝ }
+{
+    let held = words_of(v);
+    let at = WIDTH * n;
+    kinds[n] = values::kind_of(v);
+    words[at] = held.a;
+    words[at + 1] = held.b;
+    words[at + 2] = held.c;
+    words[at + 3] = held.d;
+}
+
+// A plan is stored where there is none.
+fn plan(
+    actions: &mut [u8; limit::NODES],
+    details: &mut [u16; limit::NODES],
+    n: usize,
+    action: u8,
+    detail: u16,
+)
+    requires { ⌜ n < maxNodes ⌝ }
+    ensures { λ _. ⌜ Planned n action detail (now (actions .entry)) (now (details .entry)) (now (actions .exit)) (now (details .exit)) ⌝ }
+{
+    if actions[n] == KEPT {
+        actions[n] = action;
+        details[n] = detail;
+    }
+}
+
+fn wide(x: u8) -> u16
+    ensures { λ r. ⌜ r ≡ x ⌝ }
+{
+    x as u16
+}
+
+// Adds what a trial gives a node that is not known; whether it is known then.
+pub fn store(
+    kinds: &mut [u8; limit::NODES],
+    words: &mut [u64; WORDS],
+    actions: &mut [u8; limit::NODES],
+    details: &mut [u16; limit::NODES],
+    n: usize,
+    trial: Trial,
+) -> bool
+    requires { ⌜ n < maxNodes ⌝ }
+    ensures { λ r. ⌜ ((g : Graph) (s : State) → n < size g → Holds g (now (kinds .entry)) (now (words .entry)) (now (actions .entry)) (now (details .entry)) s → s .known n ≡ none → Within g trial
+        → Holds g (now (kinds .exit)) (now (words .exit)) (now (actions .exit)) (now (details .exit)) (add s n (offerOf g n trial)) × (r ≡ isSome (offerOf g n trial .value))) ⌝ }
+{
+    match trial {
+        Trial::Nothing => false,
+        Trial::Known(v) => {
+            learn(kinds, words, n, v);
+            true
+        }
+        Trial::BecomeLiteral(v) => {
+            learn(kinds, words, n, v);
+            plan(actions, details, n, BECOME_LITERAL, 0);
+            true
+        }
+        Trial::ShortCircuit { chosen } => {
+            plan(actions, details, n, SHORT_CIRCUIT, chosen);
+            false
+        }
+        Trial::ShortCircuitKnown { chosen, value } => {
+            learn(kinds, words, n, value);
+            plan(actions, details, n, SHORT_CIRCUIT, chosen);
+            true
+        }
+        Trial::Truncate { taken } => {
+            plan(actions, details, n, TRUNCATE, wide(taken));
+            false
+        }
+    }
+}

@@ -1,0 +1,5 @@
+pub mod Queues
+pub mod Rising
+pub mod Joining
+pub mod Turning
+pub mod Running

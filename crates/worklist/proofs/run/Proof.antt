@@ -1,0 +1,104 @@
+-- `worklist::run` meets its contract. The measure: a pop for each node and each wire is enough.
+use mathlib.Core.Path.{refl}
+use Prim.Native.Nat.{_+_, _-_}
+use native.Mathlib.Omega.{arith}
+use lib.ListN.{length}
+use borrow.Author.Needs.{needs}
+use Rattle.graph.specs.Decode.{graphOf}
+use Rattle.model.specs.Inputs.{size}
+use Rattle.worklist.proofs.Running.{At, nodes-few, at-start, rest-head, at-most, at-end, at-less, at-node, at-next, at-none}
+use Rattle.worklist.proofs.run.Statement.{statement}
+use Rattle.worklist.proofs.run.Tie as tie
+
+abbrev Inv-loop : tie.InvT-loop
+Inv-loop input counts table wires rows feeds-first feeds-next first next kinds₀ words₀ actions₀ details₀ marks₀ queue₀ pops₀ kinds words actions details marks queue pops =
+    At (graphOf input) pops kinds words actions details marks queue
+
+abbrev μ-loop : tie.MeasureT-loop
+μ-loop input counts table wires rows feeds-first feeds-next first next kinds₀ words₀ actions₀ details₀ marks₀ queue₀ pops₀ kinds words actions details marks queue pops =
+    size (graphOf input) + length (graphOf input .wires) - pops
+
+clear-requires : tie.Need-clear-requires Inv-loop μ-loop
+clear-requires c κs = search needs
+
+start-requires : tie.Need-start-requires Inv-loop μ-loop
+start-requires c κs = let p = c .before .before .before .before .before .before .before .before .before .pre .0 in (nodes-few _ (p .counts) (p .bounded), refl)
+
+loop-holds : tie.Need-loop-holds Inv-loop μ-loop
+loop-holds c = at-start (c .before .before .before .before .before .before .before .before .before .before .pre .0 .counts) (c .before .before .clear .ensures _) (c .start .ensures)
+
+front-requires : tie.Need-front-requires Inv-loop μ-loop
+front-requires c κs = c .before .before .before .loop .inv .queued .head-in
+
+rest-requires : tie.Need-rest-requires Inv-loop μ-loop
+rest-requires c κs = (c .before .before .before .before .loop .inv .queued .head-in, c .before .before .before .loop-test .taken)
+
+turn-requires : tie.Need-turn-requires Inv-loop μ-loop
+turn-requires c κs =
+    let r = c .before .before .before .before .before .before in
+    let f = r .before in
+    let l = f .before .before .before in
+    let p = l .before .before .before .before .before .before .before .before .before .before .before .before .pre in
+    (p .0, p .1, at-node (l .before .loop .inv) (p .0 .bounded) (l .loop-test .taken) (f .front .ensures), rest-head (l .before .loop .queue) (r .rest .ensures))
+
+enum-known-waiting : tie.Need-enum-known-waiting Inv-loop μ-loop
+enum-known-waiting c = search needs
+
+enum-told : tie.Need-enum-told Inv-loop μ-loop
+enum-told c = search needs
+
+returns : tie.Need-returns Inv-loop μ-loop
+returns c =
+    let t = c .before .before in
+    let r = t .before .before .before .before .before .before .before in
+    let f = r .before in
+    let l = f .before .before .before in
+    let b = l .before .before .before .before .before .before .before .before .before .before .before .before .pre .0 .bounded in
+    at-none (l .before .loop .inv) b (l .loop-test .taken) (f .front .ensures) (r .rest .ensures) (t .turn .ensures) (c .enum-told .given .1)
+
+counted-requires : tie.Need-counted-requires Inv-loop μ-loop
+counted-requires c κs = search needs
+
+add-pops : tie.Need-add-pops Inv-loop μ-loop
+add-pops c =
+    let l = c .before .before .before .before .before .before .before .before .before .before .before .before .before .before .before .before in
+    let b = l .before .before .before .before .before .before .before .before .before .before .before .pre .0 .bounded in
+    record { fits = omega (arith, at-most (l .loop .inv) b, b .few-nodes, b .few-wires) }
+
+loop-less : tie.Need-loop-less Inv-loop μ-loop
+loop-less c =
+    let l = c .before .before .before .before .before .before .before .before .before .before .before .before .before .before .before in
+    omega (arith, at-less (l .before .loop .inv) (l .before .before .before .before .before .before .before .before .before .before .before .before .pre .0 .bounded) (l .loop-test .taken))
+
+loop-again : tie.Need-loop-again Inv-loop μ-loop
+loop-again c =
+    let t = c .before .before .before .before in
+    let r = t .before .before .before .before .before .before .before in
+    let f = r .before in
+    let l = f .before .before .before in
+    let b = l .before .before .before .before .before .before .before .before .before .before .before .before .pre .0 .bounded in
+    at-next (l .before .loop .inv) b (l .loop-test .taken) (f .front .ensures) (r .rest .ensures) (t .turn .ensures) (c .before .before .waiting .given .1) (c .counted .ensures)
+
+returns-2 : tie.Need-returns-2 Inv-loop μ-loop
+returns-2 c = at-end (c .before .loop .inv) (c .before .before .before .before .before .before .before .before .before .before .before .before .pre .0 .bounded) (omega (arith, c .loop-test .left))
+
+pub run-spec : {M : Type 1} → statement M
+run-spec =
+    tie.close
+    (tie.spec
+    Inv-loop
+    μ-loop
+    clear-requires
+    start-requires
+    loop-holds
+    front-requires
+    rest-requires
+    turn-requires
+    enum-known-waiting
+    enum-told
+    returns
+    counted-requires
+    add-pops
+    loop-less
+    loop-again
+    returns-2)

@@ -1,0 +1,127 @@
+// The worklist: nodes are tried in the order of a queue until none waits (lower/fold/mod.rs, the loop of `fold_certified_constants`).
+pub mod consumers;
+pub mod queue;
+
+use crate::consumers::Joined;
+use crate::queue::QUEUE_PLACES;
+use graph::Counts;
+use graph::SLOTS;
+use ir::limit;
+use state::WORDS;
+ghost use Prim.Native.Nat.{_<_};
+ghost use Rattle.graph.specs.Decode.{graphOf};
+ghost use Rattle.model.specs.Inputs.{size};
+ghost use Rattle.model.specs.Worklist.{queuePlaces};
+ghost use Rattle.wire_index.specs.Chains.{Consumers};
+ghost use Rattle.resolve.specs.Reads.{Reads};
+ghost use Rattle.worklist.specs.Turns.{Turned, Ran};
+
+// How the worklist ended: the pops, or that a consumer found no place in the queue.
+pub enum Worked {
+    Pops(usize),
+    NoPlace,
+}
+
+// Node n, taken from the front, is tried unless it is known; where it is newly known, its consumers join those that wait.
+fn turn(
+    input: &[u8],
+    counts: Counts,
+    table: &[u16; SLOTS],
+    wires: &[u8],
+    rows: &[u8],
+    feeds_first: &[u16; SLOTS],
+    feeds_next: &[u16; limit::WIRES],
+    first: &[u16; limit::NODES],
+    next: &[u16; limit::WIRES],
+    kinds: &mut [u8; limit::NODES],
+    words: &mut [u64; WORDS],
+    actions: &mut [u8; limit::NODES],
+    details: &mut [u16; limit::NODES],
+    marks: &mut [bool; limit::NODES],
+    places: &mut [u16; QUEUE_PLACES],
+    head: usize,
+    count: usize,
+    n: usize,
+) -> Joined
+    requires { ⌜ Reads (graphOf (now input)) counts (now input) (now table) (now wires) (now rows) (now «feeds_first») (now «feeds_next») × Consumers (graphOf (now input) .wires) (now first) (now next) × (n < size (graphOf (now input))) × (head < queuePlaces) ⌝ }
+    ensures { λ r. ⌜ Turned (graphOf (now (input .entry))) n head count (now (kinds .entry)) (now (words .entry)) (now (actions .entry)) (now (details .entry)) (now (marks .entry)) (now (places .entry))
+        (now (kinds .exit)) (now (words .exit)) (now (actions .exit)) (now (details .exit)) (now (marks .exit)) (now (places .exit)) r ⌝ }
+{
+    marks[n] = false;
+    if state::is_known(&*kinds, n) {
+        return Joined::Waiting(count);
+    }
+    let trial = resolve::try_resolve(
+        input,
+        counts,
+        table,
+        wires,
+        rows,
+        feeds_first,
+        feeds_next,
+        &*kinds,
+        &*words,
+        n,
+    );
+    if state::store(kinds, words, actions, details, n, trial) {
+        return consumers::join(wires, first, next, &*kinds, marks, places, head, count, n);
+    }
+    Joined::Waiting(count)
+}
+
+// Each node that is taken from the front of the queue is tried, one pop each, until none waits.
+pub fn run(
+    input: &[u8],
+    counts: Counts,
+    table: &[u16; SLOTS],
+    wires: &[u8],
+    rows: &[u8],
+    feeds_first: &[u16; SLOTS],
+    feeds_next: &[u16; limit::WIRES],
+    first: &[u16; limit::NODES],
+    next: &[u16; limit::WIRES],
+    kinds: &mut [u8; limit::NODES],
+    words: &mut [u64; WORDS],
+    actions: &mut [u8; limit::NODES],
+    details: &mut [u16; limit::NODES],
+) -> Worked
+    requires { ⌜ Reads (graphOf (now input)) counts (now input) (now table) (now wires) (now rows) (now «feeds_first») (now «feeds_next») × Consumers (graphOf (now input) .wires) (now first) (now next) ⌝ }
+    ensures { λ r. ⌜ Ran (graphOf (now (input .entry))) (now (kinds .exit)) (now (words .exit)) (now (actions .exit)) (now (details .exit)) r ⌝ }
+{
+    state::clear(kinds, words, actions, details);
+    let mut marks = [false; limit::NODES];
+    let mut queue = queue::start(&mut marks, counts.nodes);
+    let mut pops: usize = 0;
+    while 0 < queue.count {
+        let at = queue.head;
+        let n = queue::front(&queue.places, at);
+        queue = queue.rest();
+        let head = queue.head;
+        let count = queue.count;
+        let Joined::Waiting(waiting) = turn(
+            input,
+            counts,
+            table,
+            wires,
+            rows,
+            feeds_first,
+            feeds_next,
+            first,
+            next,
+            kinds,
+            words,
+            actions,
+            details,
+            &mut marks,
+            &mut queue.places,
+            head,
+            count,
+            n,
+        ) else {
+            return Worked::NoPlace;
+        };
+        queue = queue.counted(waiting);
+        pops += 1;
+    }
+    Worked::Pops(pops)
+}

@@ -1,0 +1,99 @@
+// The queue of waiting nodes, in 1,024 places that are taken round and round.
+use ir::limit;
+ghost use mathlib.Core.Path.{_≡_};
+ghost use mathlib.Core.Bool.{false};
+ghost use Prim.Native.Nat.{_+_, _-_, _%_, _≤_, _<_};
+ghost use lib.ListN.{getD, replicate};
+ghost use Rattle.ir.specs.Limits.{maxNodes};
+ghost use Rattle.model.specs.Maps.{upTo};
+ghost use Rattle.model.specs.Worklist.{queuePlaces};
+ghost use Rattle.worklist.specs.Queue.{Pushed, Queued, Filled};
+
+pub const QUEUE_PLACES: usize = 1024;
+
+// The front is at `head`, and `count` nodes wait.
+pub struct Queue {
+    pub places: [u16; QUEUE_PLACES],
+    pub head: usize,
+    pub count: usize,
+}
+
+impl Queue {
+    pub fn new() -> Self
+        ensures { λ r. ⌜ r ≡ record { places = replicate queuePlaces 0; head = 0; count = 0 } ⌝ }
+    {
+        Self {
+            places: [0u16; QUEUE_PLACES],
+            head: 0,
+            count: 0,
+        }
+    }
+
+    // The queue without its front, which the caller has read.
+    pub fn rest(mut self) -> Self
+        requires { ⌜ (self .head < queuePlaces) × (0 < self .count) ⌝ }
+        ensures { λ r. ⌜ r ≡ record { places = self .places; head = (self .head + 1) % queuePlaces; count = self .count - 1 } ⌝ }
+    {
+        self.head = (self.head + 1) % QUEUE_PLACES;
+        self.count = self.count - 1;
+        self
+    }
+
+    // The queue with so many waiting, which the caller has stored.
+    pub fn counted(mut self, count: usize) -> Self
+        ensures { λ r. ⌜ r ≡ record { places = self .places; head = self .head; count = count } ⌝ }
+    {
+        self.count = count;
+        self
+    }
+}
+
+pub fn wide(x: u16) -> usize
+    ensures { λ r. ⌜ (r ≡ x) × (r < 65536) ⌝ }
+{
+    x as usize
+}
+
+// The node at the front.
+pub fn front(places: &[u16; QUEUE_PLACES], head: usize) -> usize
+    requires { ⌜ head < queuePlaces ⌝ }
+    ensures { λ r. ⌜ r ≡ getD (now (places .entry)) head 0 ⌝ }
+{
+    wide(places[head])
+}
+
+// Stores a node behind the last of `count`, and says whether there was a place for it.
+pub fn push(places: &mut [u16; QUEUE_PLACES], head: usize, count: usize, n: usize) -> bool
+    requires { ⌜ (head < queuePlaces) × (n < maxNodes) ⌝ }
+    ensures { λ r. ⌜ Pushed (now (places .entry)) head count n (now (places .exit)) r ⌝ }
+{
+    if count < QUEUE_PLACES {
+        let at = (head + count) % QUEUE_PLACES;
+        places[at] = n as u16;
+        return true;
+    }
+    false
+}
+
+// The nodes below `nodes` are marked, each at the place of its number.
+fn fill(marks: &mut [bool; limit::NODES], places: &mut [u16; QUEUE_PLACES], nodes: usize)
+    requires { ⌜ nodes ≤ maxNodes ⌝ }
+    ensures { λ _. ⌜ Filled nodes (now (marks .entry)) (now (places .entry)) (now (marks .exit)) (now (places .exit)) ⌝ }
+{
+    let mut n: usize = 0;
+    while n < nodes {
+        marks[n] = true;
+        places[n] = n as u16;
+        n += 1;
+    }
+}
+
+// Every node waits, in number order.
+pub fn start(marks: &mut [bool; limit::NODES], nodes: usize) -> Queue
+    requires { ⌜ (nodes ≤ maxNodes) × (now marks ≡ replicate maxNodes false) ⌝ }
+    ensures { λ r. ⌜ Queued (now (marks .exit)) (r .places) (r .head) (r .count) (upTo nodes) ⌝ }
+{
+    let mut queue = Queue::new();
+    fill(marks, &mut queue.places, nodes);
+    queue.counted(nodes)
+}
