@@ -44,7 +44,6 @@ pub record Wired (wires first next : List ℕ) : Type 0 where
 
 -- the part of `Reads` by which an input is looked up
 pub record Inputs (g : Graph) (input table wires first next : List ℕ) : Type 0 where
-  pub graph : g ≡ graphOf input
   pub properties : Indexed (g .properties) input table
   pub wires-part : wiresOf wires ≡ g .wires
   pub bounded : Bounded (g .wires) (size g)

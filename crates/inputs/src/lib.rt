@@ -17,10 +17,10 @@ ghost use Rattle.graph.specs.Graph.{Graph};
 ghost use Rattle.graph.specs.Decode.{graphOf};
 ghost use Rattle.graph.specs.Index.{slot};
 ghost use Rattle.records.specs.Access.{wiresOf, rowsOf, noWire};
-ghost use Rattle.model.specs.Inputs.{size, optional, carried as carriedOf, orProperty, resolveWires};
+ghost use Rattle.model.specs.Inputs.{size, optional, carried as carriedOf, orProperty, resolveWires, isResolved, operandOf};
 ghost use Rattle.model.specs.Offer.{covers as coversOf, resolveCondition};
 ghost use Rattle.state.specs.Held.{knownOf};
-ghost use Rattle.inputs.specs.Inputs.{feedsIn, feedsOf, Wired, Inputs, wiredPort, portOf, truth, operandIn};
+ghost use Rattle.inputs.specs.Inputs.{feedsIn, feedsOf, Wired, Inputs, portOf, truth, operandIn};
 
 // The wires into a port: none, one with its number, or more.
 pub enum Feeds {
@@ -51,6 +51,7 @@ fn wide_number(x: u16) -> usize
     x as usize
 }
 
+// The wires into a port, by the chain of its slot.
 pub fn feeds_of(first: &[u16; SLOTS], next: &[u16; limit::WIRES], node: usize, port: u8) -> Feeds
     requires { ⌜ (node < maxNodes) × (port ≤ valuePort) × (getD (now first) (slot node port) 0 ≤ maxWires) ⌝ }
     ensures { λ r. ⌜ r ≡ feedsOf (now (first .entry)) (now (next .entry)) (slot node port) ⌝ }
@@ -60,10 +61,10 @@ pub fn feeds_of(first: &[u16; SLOTS], next: &[u16; limit::WIRES], node: usize, p
         return Feeds::None;
     }
     let wire = code - 1;
-    if next[wide_number(wire)] == 0 {
-        return Feeds::One(wire);
+    if next[wide_number(wire)] != 0 {
+        return Feeds::Many;
     }
-    Feeds::Many
+    Feeds::One(wire)
 }
 
 // What is known of a wire's source.
@@ -80,6 +81,7 @@ pub fn source_value(
     state::load(kinds, words, read.source.node_id)
 }
 
+// What a port with one wire has, by what is known of the source.
 fn carried(known: OptionValue) -> Resolved
     ensures { λ r. ⌜ r ≡ carriedOf (optional known) ⌝ }
 {
@@ -109,7 +111,17 @@ pub fn resolve_input(
     }
 }
 
-// The same, but a port with no wire takes the node's property.
+// A port with no wire: the node's property, if it has one.
+fn or_property(property: OptionValue) -> Resolved
+    ensures { λ r. ⌜ r ≡ orProperty Resolved.Unwired (optional property) ⌝ }
+{
+    let OptionValue::Some(v) = property else {
+        return Resolved::Unwired;
+    };
+    Resolved::Known(v)
+}
+
+// Like `resolve_input`, but a port with no wire takes the node's property.
 pub fn resolve_data_input(
     input: &[u8],
     table: &[u16; SLOTS],
@@ -124,21 +136,36 @@ pub fn resolve_data_input(
     requires { ⌜ Inputs (graphOf (now input)) (now input) (now table) (now wires) (now first) (now next) × (node < size (graphOf (now input))) × (port ≤ valuePort) ⌝ }
     ensures { λ r. ⌜ r ≡ portOf (now (input .entry)) (now (kinds .entry)) (now (words .entry)) node port ⌝ }
 {
-    let resolved = resolve_input(wires, first, next, kinds, words, node, port);
-    match resolved {
-        Resolved::Unwired => {
-            let OptionValue::Some(v) = access::property(input, table, node, port) else {
-                return Resolved::Unwired;
-            };
-            Resolved::Known(v)
-        }
-        Resolved::Known(v) => Resolved::Known(v),
-        Resolved::Unresolved => Resolved::Unresolved,
+    match feeds_of(first, next, node, port) {
+        Feeds::None => or_property(access::property(input, table, node, port)),
+        Feeds::One(wire) => carried(source_value(wires, kinds, words, wire)),
+        Feeds::Many => Resolved::Unresolved,
+    }
+}
+
+pub fn is_resolved(input: Resolved) -> bool
+    ensures { λ r. ⌜ r ≡ isResolved input ⌝ }
+{
+    match input {
+        Resolved::Unwired => true,
+        Resolved::Known(_) => true,
+        Resolved::Unresolved => false,
+    }
+}
+
+// The operand of a gate at an input; no gate is asked about an Unresolved one.
+pub fn operand_of(input: Resolved) -> Operand
+    ensures { λ r. ⌜ r ≡ operandOf input ⌝ }
+{
+    match input {
+        Resolved::Unwired => Operand::Unwired,
+        Resolved::Known(v) => Operand::Known(v),
+        Resolved::Unresolved => Operand::Unwired,
     }
 }
 
 // The operand of an input that is not Unresolved.
-pub fn operand_in(input: Resolved) -> OptionOperand
+fn operand_in(input: Resolved) -> OptionOperand
     ensures { λ r. ⌜ r ≡ operandIn input ⌝ }
 {
     match input {

@@ -1,10 +1,9 @@
 -- The value of a gate, as the model has it.
 use Prim.Native.Nat.{ℕ}
-use native.Mathlib.Omega.{arith}
-use mathlib.Core.Path.{_≡_, refl, sym, ap, ap₂, _∙_}
-use mathlib.Core.Bool.{Bool, true, false, cond, not, _&&_, _||_}
+use mathlib.Core.Path.{_≡_, refl, sym, ap, _∙_, subst}
+use mathlib.Core.Bool.{Bool, true, false, cond, _&&_, _||_}
 use mathlib.Core.Option.{Option, none, some}
-use mathlib.Core.List.{List, [], _∷_, map}
+use mathlib.Core.List.{List, [], _∷_}
 use lib.Dec.{eqb}
 use borrow.Author.Tests.{eqb-true}
 use types.Run.{OneOf, miss}
@@ -20,13 +19,11 @@ use Rattle.table.specs.declared.AnnihilatorKind.{AnnihilatorKind}
 use Rattle.table.specs.declared.OptionAnnihilator.{OptionAnnihilator}
 use Rattle.model.specs.Maps.{any, orElse}
 use Rattle.model.specs.Inputs.{optional, isResolved, allResolved, operandOf}
-use Rattle.model.specs.Offer.{covers, plannable, evaluated, settles, annihilator, holdsBool, settled, gateValue}
+use Rattle.model.specs.Offer.{covers, evaluated, settles, annihilator, holdsBool, settled, gateValue, literalOffer}
 use Rattle.model.specs.declared.Resolved.{Resolved}
 use Rattle.model.proofs.Resolved.{the-type as resolved-type}
-use Rattle.inputs.specs.Inputs.{operandIn}
-use Rattle.inputs.specs.declared.OptionOperand.{OptionOperand}
-use Rattle.inputs.proofs.Conditions.{operand-none, operand-some}
-use Rattle.resolve.specs.Gives.{covered}
+use Rattle.state.specs.declared.Trial.{Trial}
+use Rattle.resolve.specs.Gives.{covered, Gives}
 
 -- ---- operands
 
@@ -51,36 +48,20 @@ module _ (g : Graph) (class : ℕ) (a b c : Operand) {t : Bool} (row : t ≡ cov
 
 -- ---- inputs
 
-module _ (g : Graph) (class : ℕ) (a b c : Resolved) where
-  pub unresolved-a : {m : OptionOperand} → m ≡ operandIn a → m ≡ OptionOperand.None → none ≡ evaluated g class (a ∷ b ∷ c ∷ [])
-  unfolding evaluated allResolved
-  unresolved-a e h = rw (operand-none a (sym e ∙ h))
+and-first : (x y z : Bool) → ((x && y) && z) ≡ (x && (y && (z && true)))
+and-first true true true = refl
+and-first true true false = refl
+and-first true false z = refl
+and-first false y z = refl
 
-  pub unresolved-b : {m : OptionOperand} → m ≡ operandIn b → m ≡ OptionOperand.None → none ≡ evaluated g class (a ∷ b ∷ c ∷ [])
+module _ (g : Graph) (class : ℕ) (a b c : Resolved) {x y z : Bool} (p : x ≡ isResolved a) (q : y ≡ isResolved b) (r : z ≡ isResolved c) where
+  pub not-resolved : ((x && y) && z) ≡ false → none ≡ evaluated g class (a ∷ b ∷ c ∷ [])
   unfolding evaluated allResolved
-  unresolved-b e h = rw (operand-none b (sym e ∙ h), and-none (isResolved a))
-    where
-      and-none : (x : Bool) → (x && false) ≡ false
-      and-none true = refl
-      and-none false = refl
+  not-resolved e = rw (← p, ← q, ← r, ← and-first x y z, e)
 
-  pub unresolved-c : {m : OptionOperand} → m ≡ operandIn c → m ≡ OptionOperand.None → none ≡ evaluated g class (a ∷ b ∷ c ∷ [])
-  unfolding evaluated allResolved
-  unresolved-c e h = rw (operand-none c (sym e ∙ h), and-none (isResolved a) (isResolved b))
-    where
-      and-none : (x y : Bool) → (x && (y && false)) ≡ false
-      and-none true true = refl
-      and-none true false = refl
-      and-none false y = refl
-
-  pub all-resolved : {l m n : OptionOperand} {x y z : Operand} → l ≡ operandIn a → l ≡ OptionOperand.Some x → m ≡ operandIn b → m ≡ OptionOperand.Some y → n ≡ operandIn c → n ≡ OptionOperand.Some z
-      → covered g class x y z ≡ evaluated g class (a ∷ b ∷ c ∷ [])
+  pub all-resolved : {s t u : Operand} → ((x && y) && z) ≡ true → s ≡ operandOf a → t ≡ operandOf b → u ≡ operandOf c → covered g class s t u ≡ evaluated g class (a ∷ b ∷ c ∷ [])
   unfolding covered evaluated allResolved
-  all-resolved {x = x} {y = y} {z = z} d e f h i j =
-      let p = operand-some a x (sym d ∙ e) in
-      let q = operand-some b y (sym f ∙ h) in
-      let r = operand-some c z (sym i ∙ j) in
-      rw (p .resolved, q .resolved, r .resolved, p .operand, q .operand, r .operand)
+  all-resolved e i j k = rw (← p, ← q, ← r, ← and-first x y z, e, i, j, k)
 
 -- ---- annihilators
 
@@ -158,25 +139,32 @@ module _ (g : Graph) (class : ℕ) (is : List Resolved) (o : OptionValue) (e : o
   gate-evaluated h = rw (← e, h)
 
 -- a gate of one, two and three inputs
-module _ (g : Graph) (class : ℕ) {a x : Resolved} (p : a ≡ x) where
-  settled-one : (o : Option Bool) → settled o (x ∷ Resolved.Unwired ∷ Resolved.Unwired ∷ []) ≡ settled o (x ∷ [])
-  unfolding settled any
-  settled-one none = refl
-  settled-one (some b) = refl
+module _ (g : Graph) (n class : ℕ) (t : Trial) where
+  pub same-value : {p q : Option Value} → p ≡ q → Gives g n (literalOffer p) t → Gives g n (literalOffer q) t
+  same-value e h = subst (λ (o : Option Value). Gives g n (literalOffer o) t) e h
 
-  pub one-input : {o : Option Value} → o ≡ gateValue g class (a ∷ Resolved.Unwired ∷ Resolved.Unwired ∷ []) → o ≡ gateValue g class (x ∷ [])
-  unfolding gateValue evaluated allResolved covers
-  one-input e = (rw p at e) ∙ ap (orElse (evaluated g class (x ∷ []))) (settled-one (annihilator g class))
+  abbrev GivesGate : List Resolved → Type 0
+  GivesGate is = Gives g n (literalOffer (gateValue g class is)) t
 
-  module _ {b y : Resolved} (q : b ≡ y) where
-    settled-two : (o : Option Bool) → settled o (x ∷ y ∷ Resolved.Unwired ∷ []) ≡ settled o (x ∷ y ∷ [])
+  module _ {a x : Resolved} (p : a ≡ x) where
+    settled-one : (o : Option Bool) → settled o (x ∷ Resolved.Unwired ∷ Resolved.Unwired ∷ []) ≡ settled o (x ∷ [])
     unfolding settled any
-    settled-two none = refl
-    settled-two (some b) = refl
+    settled-one none = refl
+    settled-one (some b) = refl
 
-    pub two-inputs : {o : Option Value} → o ≡ gateValue g class (a ∷ b ∷ Resolved.Unwired ∷ []) → o ≡ gateValue g class (x ∷ y ∷ [])
+    pub one-input : GivesGate (a ∷ Resolved.Unwired ∷ Resolved.Unwired ∷ []) → GivesGate (x ∷ [])
     unfolding gateValue evaluated allResolved covers
-    two-inputs e = (rw (p, q) at e) ∙ ap (orElse (evaluated g class (x ∷ y ∷ []))) (settled-two (annihilator g class))
+    one-input h = same-value (ap (orElse (evaluated g class (x ∷ []))) (settled-one (annihilator g class))) (rw p at h)
 
-    pub three-inputs : {o : Option Value} {c z : Resolved} → c ≡ z → o ≡ gateValue g class (a ∷ b ∷ c ∷ []) → o ≡ gateValue g class (x ∷ y ∷ z ∷ [])
-    three-inputs r e = rw (p, q, r) at e
+    module _ {b y : Resolved} (q : b ≡ y) where
+      settled-two : (o : Option Bool) → settled o (x ∷ y ∷ Resolved.Unwired ∷ []) ≡ settled o (x ∷ y ∷ [])
+      unfolding settled any
+      settled-two none = refl
+      settled-two (some b) = refl
+
+      pub two-inputs : GivesGate (a ∷ b ∷ Resolved.Unwired ∷ []) → GivesGate (x ∷ y ∷ [])
+      unfolding gateValue evaluated allResolved covers
+      two-inputs h = same-value (ap (orElse (evaluated g class (x ∷ y ∷ []))) (settled-two (annihilator g class))) (rw (p, q) at h)
+
+      pub three-inputs : {c z : Resolved} → c ≡ z → GivesGate (a ∷ b ∷ c ∷ []) → GivesGate (x ∷ y ∷ z ∷ [])
+      three-inputs r h = rw (p, q, r) at h

@@ -36,7 +36,7 @@ use Rattle.resolve.specs.Reads.{Reads}
 use Rattle.resolve.specs.Gives.{Gives}
 
 pub inputs : {g : Graph} {c : Counts} {input table wires rows first next : List ℕ} → Reads g c input table wires rows first next → Inputs g input table wires first next
-inputs r = record { graph = r .graph; properties = r .properties; wires-part = r .wires-part; bounded = r .bounded; chains = r .feeds }
+inputs r = record { properties = r .properties; wires-part = r .wires-part; bounded = r .bounded; chains = r .feeds }
 
 carries : (o : Option Value) → valueIn (carried o) ≡ o
 carries none = refl

@@ -1,10 +1,10 @@
-// The value of a gate by its inputs. A gate of fewer than three inputs has Unwired in place of the others.
+// Gates. One of fewer than three inputs has Unwired in place of the others.
 use graph::Counts;
 use graph::SLOTS;
-use inputs::OptionOperand;
 use ir::limit;
 use ir::port;
 use model::Resolved;
+use state::Trial;
 use state::WORDS;
 use table::AnnihilatorKind;
 use table::OptionAnnihilator;
@@ -14,7 +14,7 @@ use value::Value;
 ghost use mathlib.Core.Path.{_≡_};
 ghost use mathlib.Core.Bool.{Bool};
 ghost use mathlib.Core.List.{[], _∷_, map};
-ghost use Prim.Native.Nat.{_<_};
+ghost use Prim.Native.Nat.{ℕ, _<_};
 ghost use Rattle.ir.specs.Classes.{inputPorts};
 ghost use Rattle.ir.specs.declared.Folding.{Folding as Fold};
 ghost use mathlib.Core.Option.{some};
@@ -23,10 +23,10 @@ ghost use Rattle.graph.specs.Decode.{graphOf};
 ghost use Rattle.records.specs.Access.{rowsOf};
 ghost use Rattle.semantics.specs.Finite.{nonFiniteFloat};
 ghost use Rattle.model.specs.Inputs.{size, optional};
-ghost use Rattle.model.specs.Offer.{evaluated, annihilator, isBool, holdsBool, settled, gateValue};
+ghost use Rattle.model.specs.Offer.{evaluated, annihilator, isBool, holdsBool, settled, gateValue, literalOffer};
 ghost use Rattle.resolve.specs.Reads.{Reads};
 ghost use Rattle.inputs.specs.Inputs.{portOf};
-ghost use Rattle.resolve.specs.Gives.{covered};
+ghost use Rattle.resolve.specs.Gives.{covered, Gives};
 
 fn is_non_finite(v: Value) -> bool
     ensures { λ r. ⌜ r ≡ nonFiniteFloat v ⌝ }
@@ -76,16 +76,13 @@ fn evaluate_operands(rows: &[u8], class: u8, a: Operand, b: Operand, c: Operand)
 fn evaluate(rows: &[u8], class: u8, a: Resolved, b: Resolved, c: Resolved) -> OptionValue
     ensures { λ r. ⌜ ((g : Graph) → rowsOf (now (rows .entry)) ≡ g .rows → optional r ≡ evaluated g class (a ∷ b ∷ c ∷ [])) ⌝ }
 {
-    let OptionOperand::Some(x) = inputs::operand_in(a) else {
-        return OptionValue::None;
-    };
-    let OptionOperand::Some(y) = inputs::operand_in(b) else {
-        return OptionValue::None;
-    };
-    let OptionOperand::Some(z) = inputs::operand_in(c) else {
-        return OptionValue::None;
-    };
-    evaluate_operands(rows, class, x, y, z)
+    if inputs::is_resolved(a) & inputs::is_resolved(b) & inputs::is_resolved(c) {
+        let x = inputs::operand_of(a);
+        let y = inputs::operand_of(b);
+        let z = inputs::operand_of(c);
+        return evaluate_operands(rows, class, x, y, z);
+    }
+    OptionValue::None
 }
 
 fn is_bool(want: bool, v: Value) -> bool
@@ -148,21 +145,31 @@ fn annihilate(counts: Counts, class: u8, a: Resolved, b: Resolved, c: Resolved) 
     }
 }
 
-// The value of a gate: what it gives, or else the Bool that settles it.
-fn gate_value(
+// A value, planned as literal.
+fn become_literal(value: OptionValue) -> Trial
+    ensures { λ r. ⌜ ((g : Graph) (n : ℕ) → Gives g n (literalOffer (optional value)) r) ⌝ }
+{
+    let OptionValue::Some(v) = value else {
+        return Trial::Nothing;
+    };
+    Trial::BecomeLiteral(v)
+}
+
+// A gate by its inputs: what it gives, or else the Bool that settles it, as literal.
+fn try_resolve_gate(
     rows: &[u8],
     counts: Counts,
     class: u8,
     a: Resolved,
     b: Resolved,
     c: Resolved,
-) -> OptionValue
-    ensures { λ r. ⌜ ((g : Graph) → rowsOf (now (rows .entry)) ≡ g .rows → counts ≡ countsOf g → optional r ≡ gateValue g class (a ∷ b ∷ c ∷ [])) ⌝ }
+) -> Trial
+    ensures { λ r. ⌜ ((g : Graph) (n : ℕ) → rowsOf (now (rows .entry)) ≡ g .rows → counts ≡ countsOf g → Gives g n (literalOffer (gateValue g class (a ∷ b ∷ c ∷ []))) r) ⌝ }
 {
     let OptionValue::Some(v) = evaluate(rows, class, a, b, c) else {
-        return annihilate(counts, class, a, b, c);
+        return become_literal(annihilate(counts, class, a, b, c));
     };
-    OptionValue::Some(v)
+    Trial::BecomeLiteral(v)
 }
 
 // Gates of one, two and three inputs.
@@ -178,9 +185,9 @@ pub fn unary(
     words: &[u64; WORDS],
     n: usize,
     class: u8,
-) -> OptionValue
+) -> Trial
     requires { ⌜ Reads (graphOf (now input)) counts (now input) (now table) (now wires) (now rows) (now first) (now next) × (n < size (graphOf (now input))) ⌝ }
-    ensures { λ r. ⌜ optional r ≡ gateValue (graphOf (now (input .entry))) class (map (portOf (now (input .entry)) (now (kinds .entry)) (now (words .entry)) n) (inputPorts Fold.Unary)) ⌝ }
+    ensures { λ r. ⌜ Gives (graphOf (now (input .entry))) n (literalOffer (gateValue (graphOf (now (input .entry))) class (map (portOf (now (input .entry)) (now (kinds .entry)) (now (words .entry)) n) (inputPorts Fold.Unary)))) r ⌝ }
 {
     let a = inputs::resolve_data_input(
         input,
@@ -193,7 +200,7 @@ pub fn unary(
         n,
         port::INPUT_A,
     );
-    gate_value(rows, counts, class, a, Resolved::Unwired, Resolved::Unwired)
+    try_resolve_gate(rows, counts, class, a, Resolved::Unwired, Resolved::Unwired)
 }
 
 pub fn binary(
@@ -208,9 +215,9 @@ pub fn binary(
     words: &[u64; WORDS],
     n: usize,
     class: u8,
-) -> OptionValue
+) -> Trial
     requires { ⌜ Reads (graphOf (now input)) counts (now input) (now table) (now wires) (now rows) (now first) (now next) × (n < size (graphOf (now input))) ⌝ }
-    ensures { λ r. ⌜ optional r ≡ gateValue (graphOf (now (input .entry))) class (map (portOf (now (input .entry)) (now (kinds .entry)) (now (words .entry)) n) (inputPorts Fold.Binary)) ⌝ }
+    ensures { λ r. ⌜ Gives (graphOf (now (input .entry))) n (literalOffer (gateValue (graphOf (now (input .entry))) class (map (portOf (now (input .entry)) (now (kinds .entry)) (now (words .entry)) n) (inputPorts Fold.Binary)))) r ⌝ }
 {
     let a = inputs::resolve_data_input(
         input,
@@ -234,7 +241,7 @@ pub fn binary(
         n,
         port::INPUT_B,
     );
-    gate_value(rows, counts, class, a, b, Resolved::Unwired)
+    try_resolve_gate(rows, counts, class, a, b, Resolved::Unwired)
 }
 
 pub fn ternary(
@@ -249,9 +256,9 @@ pub fn ternary(
     words: &[u64; WORDS],
     n: usize,
     class: u8,
-) -> OptionValue
+) -> Trial
     requires { ⌜ Reads (graphOf (now input)) counts (now input) (now table) (now wires) (now rows) (now first) (now next) × (n < size (graphOf (now input))) ⌝ }
-    ensures { λ r. ⌜ optional r ≡ gateValue (graphOf (now (input .entry))) class (map (portOf (now (input .entry)) (now (kinds .entry)) (now (words .entry)) n) (inputPorts Fold.Ternary)) ⌝ }
+    ensures { λ r. ⌜ Gives (graphOf (now (input .entry))) n (literalOffer (gateValue (graphOf (now (input .entry))) class (map (portOf (now (input .entry)) (now (kinds .entry)) (now (words .entry)) n) (inputPorts Fold.Ternary)))) r ⌝ }
 {
     let a = inputs::resolve_data_input(
         input,
@@ -286,5 +293,5 @@ pub fn ternary(
         n,
         port::THIRD_INPUT,
     );
-    gate_value(rows, counts, class, a, b, c)
+    try_resolve_gate(rows, counts, class, a, b, c)
 }

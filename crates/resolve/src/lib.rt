@@ -23,7 +23,7 @@ ghost use Rattle.graph.specs.Graph.{Graph};
 ghost use Rattle.graph.specs.Decode.{graphOf};
 ghost use Rattle.records.specs.Access.{rowsOf};
 ghost use Rattle.model.specs.Inputs.{size, optional, valueIn};
-ghost use Rattle.model.specs.Offer.{offer, literals, valueOffer, literalOffer, selectOffer, branchOffer, resolveCondition};
+ghost use Rattle.model.specs.Offer.{offer, literals, valueOffer, selectOffer, branchOffer, resolveCondition};
 ghost use Rattle.state.specs.Held.{knownOf};
 ghost use Rattle.state.specs.Trials.{offerOf, Within};
 ghost use Rattle.resolve.specs.Reads.{Reads};
@@ -48,16 +48,6 @@ fn passed(input: Resolved) -> Trial
         return Trial::Nothing;
     };
     Trial::Known(v)
-}
-
-// A value, planned as literal.
-fn become_literal(value: OptionValue) -> Trial
-    ensures { λ r. ⌜ ((g : Graph) (n : ℕ) → Gives g n (literalOffer (optional value)) r) ⌝ }
-{
-    let OptionValue::Some(v) = value else {
-        return Trial::Nothing;
-    };
-    Trial::BecomeLiteral(v)
 }
 
 fn chosen_port(truthy: bool) -> u8
@@ -147,9 +137,8 @@ fn try_resolve_branch(
     ) else {
         return Trial::Nothing;
     };
-    Trial::Truncate {
-        taken: taken_port(truthy),
-    }
+    let taken = taken_port(truthy);
+    Trial::Truncate { taken }
 }
 
 // What the trial of node n gives, by what is known.
@@ -209,7 +198,7 @@ pub fn try_resolve(
             n,
             class,
         ),
-        Folding::Unary => become_literal(gates::unary(
+        Folding::Unary => gates::unary(
             input,
             counts,
             table,
@@ -221,8 +210,8 @@ pub fn try_resolve(
             words,
             n,
             class,
-        )),
-        Folding::Binary => become_literal(gates::binary(
+        ),
+        Folding::Binary => gates::binary(
             input,
             counts,
             table,
@@ -234,8 +223,8 @@ pub fn try_resolve(
             words,
             n,
             class,
-        )),
-        Folding::Ternary => become_literal(gates::ternary(
+        ),
+        Folding::Ternary => gates::ternary(
             input,
             counts,
             table,
@@ -247,6 +236,6 @@ pub fn try_resolve(
             words,
             n,
             class,
-        )),
+        ),
     }
 }

@@ -1,16 +1,16 @@
 -- The arrays hold what a trial adds.
-use Prim.Native.Nat.{ℕ, zero, suc, _+_, _*_, _≤_, _<_}
+use Prim.Native.Nat.{ℕ, zero, suc, _≤_, _<_}
 use native.Mathlib.Omega.{arith}
 use native.Mathlib.Decide.{decLt}
 use mathlib.Core.Path.{_≡_, refl, sym, ap, ap₂, _∙_, fun-ext}
-use mathlib.Core.Bool.{Bool, true, false, cond, not, true≢false, false≢true}
+use mathlib.Core.Bool.{Bool, true, false, false≢true}
 use mathlib.Core.Option.{Option, none, some}
 use mathlib.Core.List.{List}
 use mathlib.Core.Logic.{_⊎_, inl, inr, _≢_}
 use lib.Dec.{eqb}
 use lib.ListN.{length, getD, set, replicate, length-set, length-replicate, getD-replicate, List·getD-eq-default}
 use lib.Seq.{getD-set-same, getD-set-other}
-use borrow.Author.Tests.{eqb-true, eqb-false, eq-eqb, ne-eqb}
+use borrow.Author.Tests.{eqb-false, eq-eqb, ne-eqb}
 use Rattle.ir.specs.Limits.{maxNodes, maxWires}
 use Rattle.ir.specs.declared.Wire.{Wire}
 use Rattle.value.specs.declared.Value.{Value}
@@ -24,7 +24,7 @@ use Rattle.model.specs.Arrays.{mapOf, storeWords}
 use Rattle.model.proofs.Maps.{Same, same?, put-here, put-there, put-none}
 use Rattle.model.proofs.Arrays.{store}
 use Rattle.state.specs.Held.{isKind, heldValue, held, knownOf}
-use Rattle.state.specs.Planned.{targetsIn, shapeAt, shapeOf, valued, planOf, Shaped, Holds}
+use Rattle.state.specs.Planned.{targetsIn, shapeAt, shapeOf, valued, planOf, Holds}
 use Rattle.state.specs.Stores.{Learnt, planned, Planned}
 use Rattle.state.specs.Trials.{offerOf, Within}
 use Rattle.state.specs.declared.Trial.{Trial}

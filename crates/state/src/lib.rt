@@ -20,8 +20,14 @@ ghost use Rattle.state.specs.Planned.{Holds};
 ghost use Rattle.state.specs.Trials.{offerOf, Within};
 ghost use Rattle.state.specs.Stores.{ThreeFloats, FourFloats, Learnt, Planned};
 
-// A known value is held as the kind of its record and up to four words; kind 0 says that nothing is known. What is planned of a node is one
-// of these, with a detail: the number of the chosen wire, or the taken port.
+// A known value is held as the kind of its record and four words; this kind says that nothing is known.
+pub const UNKNOWN: u8 = 0;
+
+pub const WORDS: usize = 4096;
+
+const WIDTH: usize = 4;
+
+// What is planned of a node is one of these, with a detail: the number of the chosen wire, or the taken port.
 pub const KEPT: u8 = 0;
 
 pub const BECOME_LITERAL: u8 = 1;
@@ -29,13 +35,6 @@ pub const BECOME_LITERAL: u8 = 1;
 pub const SHORT_CIRCUIT: u8 = 2;
 
 pub const TRUNCATE: u8 = 3;
-
-// The words of all nodes, and of one.
-pub const WORDS: usize = 4096;
-
-const WIDTH: usize = 4;
-
-pub const UNKNOWN: u8 = 0;
 
 // What a trial gives a node: a value, a plan, both, or nothing. A wire is named by its number.
 pub enum Trial {
@@ -47,7 +46,7 @@ pub enum Trial {
     Truncate { taken: u8 },
 }
 
-// The words that hold a value.
+// The words that hold a value; those that it does not need are 0.
 struct Words {
     a: u64,
     b: u64,

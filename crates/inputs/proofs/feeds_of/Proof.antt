@@ -1,5 +1,5 @@
 -- `inputs::feeds_of` meets its contract.
-use Prim.Native.Nat.{ℕ, _+_, _-_, _*_}
+use Prim.Native.Nat.{ℕ, _+_, _*_}
 use native.Mathlib.Omega.{arith}
 use mathlib.Core.Path.{ap}
 use lib.ListN.{getD}
@@ -41,10 +41,10 @@ element-copy-out-if2 c =
     omega (arith, c .wide-number .ensures .0, c .before .before .before .before .pre .2, c .before .if1 .left, e)
 
 returns-2 : tie.Need-returns-2
-returns-2 c = feeds-one _ _ _ (ap (λ (p : ℕ). getD (c .before .before .before .before .before .before .args .first .now) (c .before .before .before .before .before .before .args .node * 11 + p) 0) (c .before .before .before .before .before .wide .ensures .0)) (c .before .before .before .if1 .left) (c .before .before .wide-number .ensures .0) (c .if2 .taken)
+returns-2 c = feeds-many _ _ _ (ap (λ (p : ℕ). getD (c .before .before .before .before .before .before .args .first .now) (c .before .before .before .before .before .before .args .node * 11 + p) 0) (c .before .before .before .before .before .wide .ensures .0)) (c .before .before .before .if1 .left) (c .before .before .wide-number .ensures .0) (c .if2 .taken)
 
 returns-3 : tie.Need-returns-3
-returns-3 c = feeds-many _ _ _ (ap (λ (p : ℕ). getD (c .before .before .before .before .before .before .args .first .now) (c .before .before .before .before .before .before .args .node * 11 + p) 0) (c .before .before .before .before .before .wide .ensures .0)) (c .before .before .before .if1 .left) (c .before .before .wide-number .ensures .0) (c .if2 .left)
+returns-3 c = feeds-one _ _ _ (ap (λ (p : ℕ). getD (c .before .before .before .before .before .before .args .first .now) (c .before .before .before .before .before .before .args .node * 11 + p) 0) (c .before .before .before .before .before .wide .ensures .0)) (c .before .before .before .if1 .left) (c .before .before .wide-number .ensures .0) (c .if2 .left)
 
 pub feeds-of-spec : {M : Type 1} → statement M
 feeds-of-spec =

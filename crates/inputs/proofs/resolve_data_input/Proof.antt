@@ -1,11 +1,17 @@
 -- `inputs::resolve_data_input` meets its contract.
-use mathlib.Core.Path.{refl}
-use Rattle.inputs.proofs.Ports.{wired, few, data-port}
+use mathlib.Core.Path.{refl, _∙_}
+use Rattle.model.specs.declared.Resolved.{Resolved}
+use Rattle.model.specs.Inputs.{optional}
+use Rattle.inputs.proofs.Ports.{wired, few, data-port, carried-port}
+use Rattle.inputs.proofs.Chains.{port-code, port-says, source-node, resolve-none, resolve-one, resolve-many}
 use Rattle.inputs.proofs.resolve_data_input.Statement.{statement}
 use Rattle.inputs.proofs.resolve_data_input.Tie as tie
 
-resolve-input-requires : tie.Need-resolve-input-requires
-resolve-input-requires c κs = (wired (c .before .before .pre .0), few (c .before .before .pre .0) (c .before .before .pre .1), c .before .before .pre .2)
+feeds-of-requires : tie.Need-feeds-of-requires
+feeds-of-requires c κs =
+    let p = c .before .before .pre in
+    let n = few (p .0) (p .1) in
+    (n, p .2, port-code (wired (p .0)) _ _ n (p .2))
 
 enum-told : tie.Need-enum-told
 enum-told c = c .match .keys1
@@ -15,42 +21,54 @@ property-requires c κs =
     let p = c .before .before .before .before .before .pre in
     (few (p .0) (p .1), p .2, p .0 .properties)
 
-enum-known-v : tie.Need-enum-known-v
-enum-known-v c = c .match2 .keys1
+or-property-requires : tie.Need-or-property-requires
+or-property-requires c κs = tt
+
+enum-known-wire : tie.Need-enum-known-wire
+enum-known-wire c = c .match .keys2
+
+source-value-requires : tie.Need-source-value-requires
+source-value-requires c κs =
+    let p = c .before .before .before .before .before .before .pre in
+    let s = rw (c .before .wire .given .1) at (port-says (wired (p .0)) _ _ (few (p .0) (p .1)) (p .2) _ (c .before .before .before .feeds-of .ensures)) in
+    (s .0, source-node (wired (p .0)) _ (s .0))
+
+carried-requires : tie.Need-carried-requires
+carried-requires c κs = tt
 
 enum-told-2 : tie.Need-enum-told-2
-enum-told-2 c = c .match2 .keys2
+enum-told-2 c = c .match .keys3
 
 returns : tie.Need-returns
-returns c = rw (c .before .before .before .enum-told .given .1, c .enum-told2 .given .1) at (data-port (c .before .before .before .before .before .before .before .before .pre .0) _ _ _ (c .before .before .before .before .before .resolve-input .result) (c .before .before .property .result) (c .before .before .before .before .before .resolve-input .ensures) (c .before .before .property .ensures))
-
-enum-known-resolved : tie.Need-enum-known-resolved
-enum-known-resolved c = c .match .keys2
-
-enum-told-3 : tie.Need-enum-told-3
-enum-told-3 c = c .match .keys3
+returns c =
+    let p = c .before .before .before .before .before .before .before .pre in
+    let s = rw (c .before .before .enum-told .given .1) at (port-says (wired (p .0)) _ _ (few (p .0) (p .1)) (p .2) _ (c .before .before .before .before .feeds-of .ensures)) in
+    c .or-property .ensures ∙ data-port (p .0) _ _ _ Resolved.Unwired (c .before .property .result) (resolve-none _ s) (c .before .property .ensures)
 
 returns-2 : tie.Need-returns-2
-returns-2 c = rw (c .before .before .before .before .enum-told .given .1, c .before .v .given .1) at (data-port (c .before .before .before .before .before .before .before .before .before .pre .0) _ _ _ (c .before .before .before .before .before .before .resolve-input .result) (c .before .before .before .property .result) (c .before .before .before .before .before .before .resolve-input .ensures) (c .before .before .before .property .ensures))
+returns-2 c =
+    let p = c .before .before .before .before .before .before .before .before .pre in
+    let s = rw (c .before .before .before .wire .given .1) at (port-says (wired (p .0)) _ _ (few (p .0) (p .1)) (p .2) _ (c .before .before .before .before .before .feeds-of .ensures)) in
+    carried-port (p .0) _ _ _ (optional (c .before .source-value .result)) (c .carried .ensures) (resolve-one _ (c .before .source-value .result) (s .1) (c .before .source-value .ensures) (c .carried .ensures))
 
 returns-3 : tie.Need-returns-3
-returns-3 c = rw (c .before .resolved .given .1) at (data-port (c .before .before .before .before .before .before .pre .0) _ _ _ (c .before .before .before .resolve-input .result) _ (c .before .before .before .resolve-input .ensures) refl)
-
-returns-4 : tie.Need-returns-4
-returns-4 c = rw (c .enum-told3 .given .1) at (data-port (c .before .before .before .before .before .pre .0) _ _ _ (c .before .before .resolve-input .result) _ (c .before .before .resolve-input .ensures) refl)
+returns-3 c =
+    let p = c .before .before .before .before .before .pre in
+    let s = rw (c .enum-told2 .given .1) at (port-says (wired (p .0)) _ _ (few (p .0) (p .1)) (p .2) _ (c .before .before .feeds-of .ensures)) in
+    data-port (p .0) _ _ _ Resolved.Unresolved _ (resolve-many _ s) refl
 
 pub resolve-data-input-spec : {M : Type 1} → statement M
 resolve-data-input-spec =
     tie.close
     (tie.spec
-    resolve-input-requires
+    feeds-of-requires
     enum-told
     property-requires
-    enum-known-v
+    or-property-requires
+    enum-known-wire
+    source-value-requires
+    carried-requires
     enum-told-2
     returns
-    enum-known-resolved
-    enum-told-3
     returns-2
-    returns-3
-    returns-4)
+    returns-3)

@@ -3,7 +3,7 @@ use native.Mathlib.Omega.{arith}
 use mathlib.Core.Path.{_∙_, ap}
 use Rattle.inputs.proofs.Ports.{wired, few, wired-port}
 use Rattle.model.specs.declared.Resolved.{Resolved}
-use Rattle.model.specs.Offer.{valueOffer, literalOffer}
+use Rattle.model.specs.Offer.{valueOffer}
 use Rattle.model.specs.Inputs.{size, optional, valueIn, property}
 use Rattle.value.specs.declared.OptionValue.{OptionValue}
 use Rattle.resolve.proofs.Trials.{inputs, node-is, gives, never-folded, never, literal, microchip, select, branch, unary, binary, ternary}
@@ -70,26 +70,17 @@ enum-told-6 c = c .match .keys6
 unary-requires : tie.Need-unary-requires
 unary-requires c κs = c .before .before .before .before .before .before .before .before .before .pre
 
-become-literal-requires : tie.Need-become-literal-requires
-become-literal-requires c κs = tt
-
 enum-told-7 : tie.Need-enum-told-7
 enum-told-7 c = c .match .keys7
 
 binary-requires : tie.Need-binary-requires
 binary-requires c κs = c .before .before .before .before .before .before .before .before .before .pre
 
-become-literal-requires-2 : tie.Need-become-literal-requires-2
-become-literal-requires-2 c κs = tt
-
 enum-told-8 : tie.Need-enum-told-8
 enum-told-8 c = c .match .keys8
 
 ternary-requires : tie.Need-ternary-requires
 ternary-requires c κs = c .before .before .before .before .before .before .before .before .before .pre
-
-become-literal-requires-3 : tie.Need-become-literal-requires-3
-become-literal-requires-3 c κs = tt
 
 returns-2 : tie.Need-returns-2
 returns-2 c = (never _ _ _ (c .before .before .before .before .before .node .ensures ∙ node-is _ _ (c .before .before .before .before .before .before .before .before .before .pre .1)) (c .before .before .before .before .is-nofold .ensures) (c .before .before .before .if1 .left) (c .before .before .folding-of .ensures) (c .enum-told .given .1), tt)
@@ -119,21 +110,18 @@ returns-6 c =
 
 returns-7 : tie.Need-returns-7
 returns-7 c =
-    gives _ _ _ (c .become-literal .ensures _ _)
-    (ap literalOffer (c .before .unary .ensures)
-    ∙ unary _ _ _ (c .before .before .before .before .before .before .before .node .ensures ∙ node-is _ _ (c .before .before .before .before .before .before .before .before .before .before .before .pre .1)) (c .before .before .before .before .before .before .is-nofold .ensures) (c .before .before .before .before .before .if1 .left) (c .before .before .before .before .folding-of .ensures) (c .before .before .enum-told6 .given .1))
+    gives _ _ _ (c .unary .ensures)
+    (unary _ _ _ (c .before .before .before .before .before .before .node .ensures ∙ node-is _ _ (c .before .before .before .before .before .before .before .before .before .before .pre .1)) (c .before .before .before .before .before .is-nofold .ensures) (c .before .before .before .before .if1 .left) (c .before .before .before .folding-of .ensures) (c .before .enum-told6 .given .1))
 
 returns-8 : tie.Need-returns-8
 returns-8 c =
-    gives _ _ _ (c .become-literal2 .ensures _ _)
-    (ap literalOffer (c .before .binary .ensures)
-    ∙ binary _ _ _ (c .before .before .before .before .before .before .before .node .ensures ∙ node-is _ _ (c .before .before .before .before .before .before .before .before .before .before .before .pre .1)) (c .before .before .before .before .before .before .is-nofold .ensures) (c .before .before .before .before .before .if1 .left) (c .before .before .before .before .folding-of .ensures) (c .before .before .enum-told7 .given .1))
+    gives _ _ _ (c .binary .ensures)
+    (binary _ _ _ (c .before .before .before .before .before .before .node .ensures ∙ node-is _ _ (c .before .before .before .before .before .before .before .before .before .before .pre .1)) (c .before .before .before .before .before .is-nofold .ensures) (c .before .before .before .before .if1 .left) (c .before .before .before .folding-of .ensures) (c .before .enum-told7 .given .1))
 
 returns-9 : tie.Need-returns-9
 returns-9 c =
-    gives _ _ _ (c .become-literal3 .ensures _ _)
-    (ap literalOffer (c .before .ternary .ensures)
-    ∙ ternary _ _ _ (c .before .before .before .before .before .before .before .node .ensures ∙ node-is _ _ (c .before .before .before .before .before .before .before .before .before .before .before .pre .1)) (c .before .before .before .before .before .before .is-nofold .ensures) (c .before .before .before .before .before .if1 .left) (c .before .before .before .before .folding-of .ensures) (c .before .before .enum-told8 .given .1))
+    gives _ _ _ (c .ternary .ensures)
+    (ternary _ _ _ (c .before .before .before .before .before .before .node .ensures ∙ node-is _ _ (c .before .before .before .before .before .before .before .before .before .before .pre .1)) (c .before .before .before .before .before .is-nofold .ensures) (c .before .before .before .before .if1 .left) (c .before .before .before .folding-of .ensures) (c .before .enum-told8 .given .1))
 
 pub try-resolve-spec : {M : Type 1} → statement M
 try-resolve-spec =
@@ -156,13 +144,10 @@ try-resolve-spec =
     try-resolve-branch-requires
     enum-told-6
     unary-requires
-    become-literal-requires
     enum-told-7
     binary-requires
-    become-literal-requires-2
     enum-told-8
     ternary-requires
-    become-literal-requires-3
     returns-2
     returns-3
     returns-4

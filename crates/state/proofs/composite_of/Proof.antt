@@ -1,17 +1,16 @@
 -- `state::composite_of` meets its contract.
 use borrow.Author.Tests.{eq-eqb, ne-eqb}
-use borrow.Author.Needs.{needs}
 use Rattle.state.proofs.composite_of.Statement.{statement}
 use Rattle.state.proofs.composite_of.Tie as tie
 
 from-bits-requires : tie.Need-from-bits-requires
-from-bits-requires c κs = search needs
+from-bits-requires c κs = tt
 
 from-bits-requires-2 : tie.Need-from-bits-requires-2
-from-bits-requires-2 c κs = search needs
+from-bits-requires-2 c κs = tt
 
 from-bits-requires-3 : tie.Need-from-bits-requires-3
-from-bits-requires-3 c κs = search needs
+from-bits-requires-3 c κs = tt
 
 returns : tie.Need-returns
 returns c = simp (eq-eqb _ _ (c .if1 .taken), c .before .before .before .from-bits .ensures, c .before .before .from-bits2 .ensures, c .before .from-bits3 .ensures)
@@ -20,7 +19,7 @@ returns-2 : tie.Need-returns-2
 returns-2 c = simp (ne-eqb _ _ (c .before .if1 .left), eq-eqb _ _ (c .if2 .taken), c .before .before .before .before .from-bits .ensures, c .before .before .before .from-bits2 .ensures, c .before .before .from-bits3 .ensures)
 
 from-bits-requires-4 : tie.Need-from-bits-requires-4
-from-bits-requires-4 c κs = search needs
+from-bits-requires-4 c κs = tt
 
 returns-3 : tie.Need-returns-3
 returns-3 c = simp (ne-eqb _ _ (c .before .before .before .if1 .left), ne-eqb _ _ (c .before .before .if2 .left), eq-eqb _ _ (c .if3 .taken), c .before .before .before .before .before .before .from-bits .ensures, c .before .before .before .before .before .from-bits2 .ensures, c .before .before .before .before .from-bits3 .ensures, c .before .from-bits4 .ensures)

@@ -5,16 +5,16 @@ use Rattle.state.proofs.four_words.Statement.{statement}
 use Rattle.state.proofs.four_words.Tie as tie
 
 to-bits-requires : tie.Need-to-bits-requires
-to-bits-requires c κs = search needs
+to-bits-requires c κs = tt
 
 to-bits-requires-2 : tie.Need-to-bits-requires-2
-to-bits-requires-2 c κs = search needs
+to-bits-requires-2 c κs = tt
 
 to-bits-requires-3 : tie.Need-to-bits-requires-3
-to-bits-requires-3 c κs = search needs
+to-bits-requires-3 c κs = tt
 
 to-bits-requires-4 : tie.Need-to-bits-requires-4
-to-bits-requires-4 c κs = search needs
+to-bits-requires-4 c κs = tt
 
 returns : tie.Need-returns
 returns c = record { three = record { first = float-back (search needs) (c .before .before .before .to-bits .ensures); second = float-back (search needs) (c .before .before .to-bits2 .ensures); third = float-back (search needs) (c .before .to-bits3 .ensures) }; fourth = float-back (search needs) (c .to-bits4 .ensures) }

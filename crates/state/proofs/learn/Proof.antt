@@ -8,13 +8,13 @@ use Rattle.state.proofs.learn.Statement.{statement}
 use Rattle.state.proofs.learn.Tie as tie
 
 words-of-requires : tie.Need-words-of-requires
-words-of-requires c κs = search needs
+words-of-requires c κs = tt
 
 mul-at : tie.Need-mul-at
 mul-at c = search needs
 
 kind-of-requires : tie.Need-kind-of-requires
-kind-of-requires c κs = search needs
+kind-of-requires c κs = tt
 
 element-write-kinds : tie.Need-element-write-kinds
 element-write-kinds c = search needs

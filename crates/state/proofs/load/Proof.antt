@@ -51,7 +51,7 @@ element-copy-out-value-of-4 : tie.Need-element-copy-out-value-of-4
 element-copy-out-value-of-4 c = search needs
 
 value-of-requires : tie.Need-value-of-requires
-value-of-requires c κs = search needs
+value-of-requires c κs = tt
 
 returns-2 : tie.Need-returns-2
 unfolding knownOf held

@@ -5,16 +5,16 @@ use Rattle.state.proofs.store.Statement.{statement}
 use Rattle.state.proofs.store.Tie as tie
 
 enum-told : tie.Need-enum-told
-enum-told c = search needs
+enum-told c = c .match .keys1
 
 enum-known-trial : tie.Need-enum-known-trial
-enum-known-trial c = search needs
+enum-known-trial c = c .match .keys2
 
 learn-requires : tie.Need-learn-requires
 learn-requires c κs = search needs
 
 enum-known-trial-2 : tie.Need-enum-known-trial-2
-enum-known-trial-2 c = search needs
+enum-known-trial-2 c = c .match .keys3
 
 learn-requires-2 : tie.Need-learn-requires-2
 learn-requires-2 c κs = search needs
@@ -23,13 +23,13 @@ plan-requires : tie.Need-plan-requires
 plan-requires c κs = search needs
 
 enum-known-trial-3 : tie.Need-enum-known-trial-3
-enum-known-trial-3 c = search needs
+enum-known-trial-3 c = c .match .keys4
 
 plan-requires-2 : tie.Need-plan-requires-2
 plan-requires-2 c κs = search needs
 
 enum-known-trial-4 : tie.Need-enum-known-trial-4
-enum-known-trial-4 c = search needs
+enum-known-trial-4 c = c .match .keys5
 
 learn-requires-3 : tie.Need-learn-requires-3
 learn-requires-3 c κs = search needs
@@ -38,10 +38,10 @@ plan-requires-3 : tie.Need-plan-requires-3
 plan-requires-3 c κs = search needs
 
 enum-known-trial-5 : tie.Need-enum-known-trial-5
-enum-known-trial-5 c = search needs
+enum-known-trial-5 c = c .match .keys6
 
 wide-requires : tie.Need-wide-requires
-wide-requires c κs = search needs
+wide-requires c κs = tt
 
 plan-requires-4 : tie.Need-plan-requires-4
 plan-requires-4 c κs = search needs

@@ -5,13 +5,13 @@ use Rattle.state.proofs.three_words.Statement.{statement}
 use Rattle.state.proofs.three_words.Tie as tie
 
 to-bits-requires : tie.Need-to-bits-requires
-to-bits-requires c κs = search needs
+to-bits-requires c κs = tt
 
 to-bits-requires-2 : tie.Need-to-bits-requires-2
-to-bits-requires-2 c κs = search needs
+to-bits-requires-2 c κs = tt
 
 to-bits-requires-3 : tie.Need-to-bits-requires-3
-to-bits-requires-3 c κs = search needs
+to-bits-requires-3 c κs = tt
 
 returns : tie.Need-returns
 returns c = record { first = float-back (search needs) (c .before .before .to-bits .ensures); second = float-back (search needs) (c .before .to-bits2 .ensures); third = float-back (search needs) (c .to-bits3 .ensures) }

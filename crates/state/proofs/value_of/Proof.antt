@@ -12,14 +12,14 @@ use Rattle.state.proofs.value_of.Statement.{statement}
 use Rattle.state.proofs.value_of.Tie as tie
 
 from-bits-requires : tie.Need-from-bits-requires
-from-bits-requires c κs = search needs
+from-bits-requires c κs = tt
 
 returns : tie.Need-returns
 unfolding heldValue
 returns c = ap {B = Value} Int (toZ-ofZ {w = w64} {z = c .from-bits .result} (search needs) ∙ c .from-bits .ensures) ∙ simp (eq-eqb _ _ (c .before .if1 .taken))
 
 from-bits-requires-2 : tie.Need-from-bits-requires-2
-from-bits-requires-2 c κs = search needs
+from-bits-requires-2 c κs = tt
 
 returns-2 : tie.Need-returns-2
 unfolding heldValue
@@ -30,7 +30,7 @@ unfolding heldValue
 returns-3 c = simp (ne-eqb _ _ (c .before .before .if1 .left), ne-eqb _ _ (c .before .if2 .left), eq-eqb _ _ (c .if3 .taken))
 
 composite-of-requires : tie.Need-composite-of-requires
-composite-of-requires c κs = search needs
+composite-of-requires c κs = tt
 
 returns-4 : tie.Need-returns-4
 returns-4 c = c .composite-of .ensures ∙ sym (held-composite _ _ _ _ _ (c .before .before .before .if1 .left) (c .before .before .if2 .left) (c .before .if3 .left))

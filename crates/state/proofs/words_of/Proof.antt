@@ -10,55 +10,55 @@ use Rattle.state.proofs.words_of.Statement.{statement}
 use Rattle.state.proofs.words_of.Tie as tie
 
 enum-known-v : tie.Need-enum-known-v
-enum-known-v c = search needs
+enum-known-v c = c .match .keys1
 
 to-bits-requires : tie.Need-to-bits-requires
-to-bits-requires c κs = search needs
+to-bits-requires c κs = tt
 
 one-word-requires : tie.Need-one-word-requires
-one-word-requires c κs = search needs
+one-word-requires c κs = tt
 
 enum-known-v-2 : tie.Need-enum-known-v-2
-enum-known-v-2 c = search needs
+enum-known-v-2 c = c .match .keys2
 
 to-bits-requires-2 : tie.Need-to-bits-requires-2
-to-bits-requires-2 c κs = search needs
+to-bits-requires-2 c κs = tt
 
 one-word-requires-2 : tie.Need-one-word-requires-2
-one-word-requires-2 c κs = search needs
+one-word-requires-2 c κs = tt
 
 enum-known-v-3 : tie.Need-enum-known-v-3
-enum-known-v-3 c = search needs
+enum-known-v-3 c = c .match .keys3
 
 bool-word-requires : tie.Need-bool-word-requires
-bool-word-requires c κs = search needs
+bool-word-requires c κs = tt
 
 one-word-requires-3 : tie.Need-one-word-requires-3
-one-word-requires-3 c κs = search needs
+one-word-requires-3 c κs = tt
 
 enum-known-v-4 : tie.Need-enum-known-v-4
-enum-known-v-4 c = search needs
+enum-known-v-4 c = c .match .keys4
 
 three-words-requires : tie.Need-three-words-requires
-three-words-requires c κs = search needs
+three-words-requires c κs = tt
 
 enum-known-v-5 : tie.Need-enum-known-v-5
-enum-known-v-5 c = search needs
+enum-known-v-5 c = c .match .keys5
 
 three-words-requires-2 : tie.Need-three-words-requires-2
-three-words-requires-2 c κs = search needs
+three-words-requires-2 c κs = tt
 
 enum-known-v-6 : tie.Need-enum-known-v-6
-enum-known-v-6 c = search needs
+enum-known-v-6 c = c .match .keys6
 
 four-words-requires : tie.Need-four-words-requires
-four-words-requires c κs = search needs
+four-words-requires c κs = tt
 
 enum-known-v-7 : tie.Need-enum-known-v-7
-enum-known-v-7 c = search needs
+enum-known-v-7 c = c .match .keys7
 
 four-words-requires-2 : tie.Need-four-words-requires-2
-four-words-requires-2 c κs = search needs
+four-words-requires-2 c κs = tt
 
 returns : tie.Need-returns
 returns c = rw (c .before .before .before .v .given .1) (held-int (c .one-word .result) (search needs) (ap (λ (w : Words). w .a) (c .one-word .ensures) ∙ c .before .to-bits .ensures ∙ ap (ofZ w64) (toZ-ofZ {z = c .before .before .before .v .given .0 .0} (search needs))))

@@ -1,7 +1,6 @@
 -- `resolve::gates::is_non_finite` meets its contract.
 use mathlib.Core.Bool.{not}
 use mathlib.Core.Path.{ap}
-use borrow.Author.Needs.{needs}
 use Rattle.resolve.proofs.gates.is_non_finite.Statement.{statement}
 use Rattle.resolve.proofs.gates.is_non_finite.Tie as tie
 

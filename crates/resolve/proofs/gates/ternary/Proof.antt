@@ -1,7 +1,7 @@
 -- `resolve::gates::ternary` meets its contract.
 use native.Mathlib.Omega.{arith}
-use Rattle.resolve.proofs.Trials.{inputs}
 use Rattle.resolve.proofs.GateValues.{three-inputs}
+use Rattle.resolve.proofs.Trials.{inputs}
 use Rattle.resolve.proofs.gates.ternary.Statement.{statement}
 use Rattle.resolve.proofs.gates.ternary.Tie as tie
 
@@ -14,11 +14,11 @@ resolve-data-input-requires-2 c κs = (inputs (c .before .before .before .before
 resolve-data-input-requires-3 : tie.Need-resolve-data-input-requires-3
 resolve-data-input-requires-3 c κs = (inputs (c .before .before .before .before .before .pre .0), c .before .before .before .before .before .pre .1, omega arith)
 
-gate-value-requires : tie.Need-gate-value-requires
-gate-value-requires c κs = tt
+try-resolve-gate-requires : tie.Need-try-resolve-gate-requires
+try-resolve-gate-requires c κs = tt
 
 returns : tie.Need-returns
-returns c = three-inputs _ _ (c .before .before .before .resolve-data-input .ensures) (c .before .before .resolve-data-input2 .ensures) (c .before .resolve-data-input3 .ensures) (c .gate-value .ensures _ (c .before .before .before .before .before .before .before .pre .0 .rows-part) (c .before .before .before .before .before .before .before .pre .0 .counts))
+returns c = three-inputs _ _ _ _ (c .before .before .before .resolve-data-input .ensures) (c .before .before .resolve-data-input2 .ensures) (c .before .resolve-data-input3 .ensures) (c .try-resolve-gate .ensures _ _ (c .before .before .before .before .before .before .before .pre .0 .rows-part) (c .before .before .before .before .before .before .before .pre .0 .counts))
 
 pub ternary-spec : {M : Type 1} → statement M
 ternary-spec =
@@ -27,5 +27,5 @@ ternary-spec =
     resolve-data-input-requires
     resolve-data-input-requires-2
     resolve-data-input-requires-3
-    gate-value-requires
+    try-resolve-gate-requires
     returns)

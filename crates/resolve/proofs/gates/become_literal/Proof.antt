@@ -1,9 +1,9 @@
--- `resolve::become_literal` meets its contract.
+-- `resolve::gates::become_literal` meets its contract.
 use mathlib.Core.Path.{ap}
 use Rattle.model.specs.Inputs.{optional}
 use Rattle.resolve.proofs.Trials.{no-literal, becomes-literal}
-use Rattle.resolve.proofs.become_literal.Statement.{statement}
-use Rattle.resolve.proofs.become_literal.Tie as tie
+use Rattle.resolve.proofs.gates.become_literal.Statement.{statement}
+use Rattle.resolve.proofs.gates.become_literal.Tie as tie
 
 enum-known-value : tie.Need-enum-known-value
 enum-known-value c = c .match .keys1

@@ -1,0 +1,163 @@
+//! Prints the tables of times and of stack for whole folds.
+use bench::folders::{self, Fold, Outcome};
+use bench::records::Graph;
+use bench::shapes::{self, NODES, Shape};
+use bench::stack;
+use bench::table::{Table, micros, ratio, whole};
+use bench::timing::{self, Effort, Times, micros as measured};
+use std::time::Duration;
+
+const EFFORT: Effort = Effort {
+    rounds: 12,
+    time: Duration::from_millis(20),
+};
+const LITTLE_EFFORT: Effort = Effort {
+    rounds: 8,
+    time: Duration::from_millis(5),
+};
+const TIME_HEADS: [&str; 5] = [
+    "proved",
+    "plain",
+    "original",
+    "proved / plain",
+    "original / plain",
+];
+
+fn main() {
+    times("Graphs at the limits", &shapes::usual());
+    generated(&shapes::generated(20));
+    times("Graphs made to be slow", &shapes::hard());
+    stages(&shapes::all());
+    growths();
+    peaks();
+}
+
+/// A cell for each of `TIME_HEADS`.
+fn time_cells(proved: Option<f64>, plain: Option<f64>, original: Option<f64>) -> Vec<String> {
+    vec![
+        micros(proved),
+        micros(plain),
+        micros(original),
+        ratio(proved, plain),
+        ratio(original, plain),
+    ]
+}
+
+fn cells(times: &Times) -> Vec<String> {
+    time_cells(
+        measured(times.proved),
+        measured(times.plain),
+        measured(times.original),
+    )
+}
+
+fn times(heading: &str, shapes: &[Shape]) {
+    let mut table = Table::new(&[&["graph", "pops", "answer, bytes"], &TIME_HEADS[..]].concat());
+    for (shape, times) in shapes.iter().zip(timing::fold_all(shapes, EFFORT)) {
+        let (outcome, _) = timing::check(shape);
+        let Outcome::Folded { length, pops } = outcome else {
+            panic!("{} is refused", shape.name);
+        };
+        let facts = vec![shape.name.clone(), whole(pops), whole(length)];
+        table.row([facts, cells(&times)].concat());
+    }
+    table.print(&format!("{heading} (µs)"));
+}
+
+/// The mean over some graphs.
+fn generated(shapes: &[Shape]) {
+    let all = timing::fold_all(shapes, LITTLE_EFFORT);
+    let mean = |of: fn(&Times) -> Duration| -> Option<f64> {
+        let times: Option<Vec<f64>> = all.iter().map(|times| measured(of(times))).collect();
+        times.map(|times| times.iter().sum::<f64>() / times.len() as f64)
+    };
+    let mut table = Table::new(&[&["graphs"], &TIME_HEADS[..]].concat());
+    let name = format!("{} random graphs of 1,024 nodes, mean", shapes.len());
+    let cells = time_cells(mean(|t| t.proved), mean(|t| t.plain), mean(|t| t.original));
+    table.row([vec![name], cells].concat());
+    table.print("Generated graphs (µs)");
+}
+
+/// Where the plain folder spends its time.
+fn stages(shapes: &[Shape]) {
+    let heads = [
+        "graph",
+        "decoding and index",
+        "worklist",
+        "rewriting and answer",
+    ];
+    let mut table = Table::new(&heads);
+    let all = timing::stages_all(shapes, EFFORT);
+    for (shape, [decoding, worklist, whole]) in shapes.iter().zip(all) {
+        let parts = [
+            decoding,
+            worklist.saturating_sub(decoding),
+            whole.saturating_sub(worklist),
+        ];
+        let parts = parts.map(|part| micros(measured(part)));
+        table.row([vec![shape.name.clone()], parts.to_vec()].concat());
+    }
+    table.print("Where the plain folder spends its time (µs)");
+}
+
+/// Graphs of one kind by size.
+type Family = (&'static str, &'static [usize], fn(usize) -> Graph);
+
+fn growths() {
+    let families: [Family; 6] = [
+        ("chain, nodes", &[1, 64, 256, 1_024], shapes::chain),
+        ("fan, nodes", &[64, 256, 1_024], shapes::fan),
+        ("no plan, wires", &[64, 256, 1_024, 4_096], |wires| {
+            shapes::no_plan(NODES, wires)
+        }),
+        ("chain of 1,024 nodes, rows", &[1, 64, 256, 1_024], |rows| {
+            shapes::rows(shapes::chain(NODES), rows)
+        }),
+        ("Selects in a row, shuffled", &[64, 256, 1_000], |selects| {
+            shapes::shuffled(shapes::select_row(selects as u16))
+        }),
+        (
+            "Branches in a row, shuffled",
+            &[64, 256, 1_000],
+            |branches| shapes::shuffled(shapes::branch_row(branches as u16, 3_000)),
+        ),
+    ];
+    let mut table = Table::new(&[&["graph", "size"], &TIME_HEADS[..]].concat());
+    for (name, sizes, graph) in families {
+        let shapes: Vec<Shape> = sizes
+            .iter()
+            .map(|&n| shapes::shape(name, &graph(n)))
+            .collect();
+        for (size, times) in sizes.iter().zip(timing::fold_all(&shapes, LITTLE_EFFORT)) {
+            let facts = vec![name.to_string(), whole(*size)];
+            table.row([facts, cells(&times)].concat());
+        }
+    }
+    table.print("How the time grows (µs)");
+}
+
+/// The stack that a fold uses.
+fn peaks() {
+    let shapes = [shapes::all(), shapes::generated(20)].concat();
+    let mut table = Table::new(&["folder", "least", "most"]);
+    let folders = [
+        ("proved", folders::PROVED),
+        ("plain", Some(folders::plain as Fold)),
+    ];
+    for (name, fold) in folders {
+        let peaks = fold.map(|fold| shapes.iter().map(|shape| peak(fold, shape)).collect());
+        let peaks: Vec<usize> = peaks.unwrap_or_default();
+        let cell = |bytes: Option<&usize>| bytes.map_or("–".to_string(), |&bytes| whole(bytes));
+        table.row(vec![
+            name.to_string(),
+            cell(peaks.iter().min()),
+            cell(peaks.iter().max()),
+        ]);
+    }
+    table.print("Stack at its peak, over all graphs above (bytes)");
+}
+
+fn peak(fold: Fold, shape: &Shape) -> usize {
+    let mut out = vec![0; 65_536];
+    stack::peak(|| _ = fold(&shape.input, &mut out))
+}

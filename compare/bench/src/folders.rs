@@ -1,0 +1,93 @@
+//! The folders under one form: an input and an answer buffer in, an outcome out.
+
+#[derive(Clone, Copy, Debug, PartialEq, Eq)]
+pub enum Outcome {
+    Folded { length: usize, pops: usize },
+    Refused { number: u8, place: usize },
+}
+
+pub type Fold = fn(&[u8], &mut [u8]) -> Outcome;
+/// Decodes and runs the worklist: the pops, or the refusal's number.
+pub type Worklist = fn(&[u8]) -> Result<usize, u8>;
+
+#[inline(never)]
+pub fn plain(input: &[u8], out: &mut [u8]) -> Outcome {
+    match plain::fold(input, out) {
+        Ok((length, pops)) => Outcome::Folded { length, pops },
+        Err((number, place)) => Outcome::Refused { number, place },
+    }
+}
+
+#[inline(never)]
+pub fn plain_worklist(input: &[u8]) -> Result<usize, u8> {
+    match plain::worklist(input) {
+        Ok((pops, _)) => Ok(pops),
+        Err((number, _)) => Err(number),
+    }
+}
+
+/// The proved folder, where it is linked.
+#[cfg(feature = "folding")]
+pub const PROVED: Option<Fold> = Some(proved::fold);
+#[cfg(not(feature = "folding"))]
+pub const PROVED: Option<Fold> = None;
+
+#[cfg(feature = "stages")]
+pub const PROVED_WORKLIST: Option<Worklist> = Some(proved_stages::worklist);
+#[cfg(not(feature = "stages"))]
+pub const PROVED_WORKLIST: Option<Worklist> = None;
+
+#[cfg(feature = "folding")]
+mod proved {
+    use super::Outcome;
+
+    unsafe extern "C" {
+        fn mezburiko_fold(
+            input: *const u8,
+            input_length: usize,
+            out: *mut u8,
+            out_length: usize,
+            place: *mut usize,
+            length: *mut usize,
+            pops: *mut usize,
+        ) -> u8;
+    }
+
+    #[inline(never)]
+    pub fn fold(input: &[u8], out: &mut [u8]) -> Outcome {
+        let (mut place, mut length, mut pops) = (0, 0, 0);
+        // SAFETY: each pointer is to so many bytes, or to one number, and is used in the call only.
+        let number = unsafe {
+            mezburiko_fold(
+                input.as_ptr(),
+                input.len(),
+                out.as_mut_ptr(),
+                out.len(),
+                &mut place,
+                &mut length,
+                &mut pops,
+            )
+        };
+        match number {
+            0 => Outcome::Folded { length, pops },
+            _ => Outcome::Refused { number, place },
+        }
+    }
+}
+
+#[cfg(feature = "stages")]
+mod proved_stages {
+    unsafe extern "C" {
+        fn mezburiko_worklist(input: *const u8, input_length: usize, pops: *mut usize) -> u8;
+    }
+
+    #[inline(never)]
+    pub fn worklist(input: &[u8]) -> Result<usize, u8> {
+        let mut pops = 0;
+        // SAFETY: as in `proved::fold`.
+        match unsafe { mezburiko_worklist(input.as_ptr(), input.len(), &mut pops) } {
+            0 => Ok(pops),
+            number => Err(number),
+        }
+    }
+}

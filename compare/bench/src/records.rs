@@ -1,0 +1,138 @@
+//! Graphs as document 01's records.
+
+pub mod port {
+    pub const OUTPUT: u8 = 0;
+    pub const EXEC: u8 = 1;
+    pub const INPUT_A: u8 = 2;
+    pub const INPUT_B: u8 = 3;
+    pub const SELECT_B: u8 = 4;
+    pub const COND: u8 = 5;
+    pub const EXEC_OUT_A: u8 = 6;
+    pub const EXEC_OUT_B: u8 = 7;
+    pub const RER_INPUT: u8 = 8;
+    pub const INPUT_C: u8 = 9;
+    pub const VALUE: u8 = 10;
+}
+
+pub mod class {
+    pub const OTHER: u8 = 0;
+    pub const LITERAL: u8 = 1;
+    pub const CHIP_INPUT: u8 = 2;
+    pub const CHIP_OUTPUT: u8 = 3;
+    pub const SELECT: u8 = 4;
+    pub const BRANCH: u8 = 5;
+    pub const EQUAL: u8 = 6;
+    pub const AND: u8 = 12;
+    pub const OR: u8 = 13;
+    pub const ADD: u8 = 18;
+    pub const LAST: u8 = 41;
+}
+
+pub mod variant {
+    pub const UNWIRED: u8 = 0;
+    pub const INT: u8 = 1;
+    pub const FLOAT: u8 = 2;
+    pub const BOOL: u8 = 3;
+    pub const LAST: u8 = 7;
+}
+
+/// The parts of a graph; the property's value has the bytes that its variant asks for.
+#[derive(Clone, Default)]
+pub struct Graph {
+    /// Class and flags.
+    pub nodes: Vec<(u8, u8)>,
+    /// Source node and port, target node and port.
+    pub wires: Vec<(u16, u8, u16, u8)>,
+    pub properties: Vec<Property>,
+    /// Class and variants.
+    pub rows: Vec<[u8; 4]>,
+    pub annihilators: Vec<u8>,
+}
+
+#[derive(Clone)]
+pub struct Property {
+    pub variant: u8,
+    pub node: u16,
+    pub port: u8,
+    pub value: Vec<u8>,
+}
+
+impl Graph {
+    pub fn node(&mut self, class: u8) -> u16 {
+        self.nodes.push((class, 0));
+        (self.nodes.len() - 1) as u16
+    }
+
+    pub fn nodes(&mut self, class: u8, count: usize) {
+        for _ in 0..count {
+            self.node(class);
+        }
+    }
+
+    pub fn wire(&mut self, source: (u16, u8), target: (u16, u8)) {
+        self.wires.push((source.0, source.1, target.0, target.1));
+    }
+
+    pub fn int(&mut self, node: u16, port: u8, value: i64) {
+        self.properties.push(Property {
+            variant: variant::INT,
+            node,
+            port,
+            value: value.to_le_bytes().to_vec(),
+        });
+    }
+
+    pub fn row(&mut self, class: u8, variants: [u8; 3]) {
+        let [a, b, c] = variants;
+        self.rows.push([class, a, b, c]);
+    }
+
+    /// Gives node `i` the number `numbers[i]`.
+    pub fn renumbered(mut self, numbers: &[u16]) -> Graph {
+        let mut nodes = self.nodes.clone();
+        for (node, &number) in self.nodes.iter().zip(numbers) {
+            nodes[usize::from(number)] = *node;
+        }
+        self.nodes = nodes;
+        let number = |node: &mut u16| *node = numbers[usize::from(*node)];
+        for (source, _, target, _) in &mut self.wires {
+            number(source);
+            number(target);
+        }
+        for property in &mut self.properties {
+            number(&mut property.node);
+        }
+        self
+    }
+
+    /// The records, kinds rising.
+    pub fn bytes(&self) -> Vec<u8> {
+        self.records().concat()
+    }
+
+    pub fn records(&self) -> Vec<Vec<u8>> {
+        let mut records = Vec::new();
+        for &(class, flags) in &self.nodes {
+            records.push(vec![0x01, class, flags]);
+        }
+        for &(source, source_port, target, target_port) in &self.wires {
+            let ([a, b], [c, d]) = (source.to_le_bytes(), target.to_le_bytes());
+            records.push(vec![0x02, a, b, source_port, c, d, target_port]);
+        }
+        let mut properties: Vec<&Property> = self.properties.iter().collect();
+        properties.sort_by_key(|property| property.variant);
+        for property in properties {
+            let [low, high] = property.node.to_le_bytes();
+            let mut record = vec![property.variant + 2, low, high, property.port];
+            record.extend(&property.value);
+            records.push(record);
+        }
+        for &[class, a, b, c] in &self.rows {
+            records.push(vec![0x0A, class, a, b, c]);
+        }
+        for &class in &self.annihilators {
+            records.push(vec![0x0B, class]);
+        }
+        records
+    }
+}
