@@ -22,7 +22,7 @@ use Rattle.ir.specs.Limits.{maxWires}
 use Rattle.model.specs.Answer.{answer}
 use Rattle.model.specs.Outcome.{wireOffset, counted, ending, wires, stops, measured, answered, Result, folds, refuses, Numbers, numbersOf, written, outcome}
 use Rattle.model.specs.Demands.{foldOf, planOf, Refused, FirstEndless, Clean, Demand3}
-use Rattle.model.proofs.Refusals.{refusals, refusal-number, folds-refuses, at-refusal, at-graph}
+use Rattle.model.proofs.Refusals.{refusals, never-full, folds-refuses, at-refusal, at-graph}
 use Rattle.model.proofs.Demand3.{demand3-returned}
 use Rattle.model.proofs.Decoded.{refused-number}
 use Rattle.folding.specs.declared.Outcome.{Outcome}
@@ -92,6 +92,10 @@ module _ {input before after : List ℕ} {r : Outcome} (A : Answers input before
 
   pub offset-kept : numbers r .number ≡ 9 → EndlessAt input (numbers r .place)
   offset-kept e = endless-of 9 (numbers r .place) refl (refusals-kept 9 (numbers r .place) (omega arith) .0 (e, refl))
+
+  -- 11 is never given
+  pub never-full-kept : numbers r .number ≡ 11 → ⊥
+  never-full-kept e = never-full input room (numbers r .place) (numbers-refuse 11 (numbers r .place) (omega arith) e refl _ refl)
 
   -- ---- demand 3
 

@@ -221,6 +221,7 @@ pub fn fold(input: &[u8], out: &mut [u8]) -> Outcome
     ensures pops { λ r. ⌜ (Accepted (numbers r) → PopsOf (graphOf (now (input .entry))) (numbers r .pops)) ⌝ }
     ensures finite { λ r. ⌜ (Accepted (numbers r) → FinitePlan (graphOf (now (input .entry)))) ⌝ }
     ensures clean { λ r. ⌜ (Accepted (numbers r) → CleanWires (graphOf (now (input .entry)))) ⌝ }
+    ensures never_full { λ r. ⌜ (numbers r .number ≡ 11 → ⊥) ⌝ }
 {
     fold_input(input, out)
 }

@@ -7,7 +7,7 @@ use native.Mathlib.Omega.{arith}
 use lib.ListN.{length, getD}
 use borrow.Author.Needs.{needs}
 use denote.Ref.{now}
-use Rattle.folding.proofs.Kept.{fits-kept, refusals-kept, offset-kept, order-kept, answer-kept, pops-kept, finite-kept, clean-kept}
+use Rattle.folding.proofs.Kept.{fits-kept, refusals-kept, offset-kept, order-kept, answer-kept, pops-kept, finite-kept, clean-kept, never-full-kept}
 use Rattle.folding.proofs.fold.Statement.{statement}
 use Rattle.folding.proofs.fold.Tie as tie
 
@@ -20,7 +20,7 @@ same-length c = search needs
 returns : tie.Need-returns
 returns c =
     let A = c .before .before .fold-input .ensures in
-    (A .result, (A .buffer, (fits-kept A, (refusals-kept A, (offset-kept A, (order-kept A, (answer-kept A, (pops-kept A, (finite-kept A, clean-kept A)))))))))
+    (A .result, (A .buffer, (fits-kept A, (refusals-kept A, (offset-kept A, (order-kept A, (answer-kept A, (pops-kept A, (finite-kept A, (clean-kept A, never-full-kept A))))))))))
 
 pub fold-spec : {M : Type 1} → statement M
 fold-spec = tie.close (tie.spec fold-input-requires same-length returns)
