@@ -106,9 +106,6 @@ module _ {input before after : List ℕ} {r : Outcome} (A : Answers input before
     same : demand .graph ≡ graphOf input
     same = graph-is (demand .graph) (demand .read)
 
-    pub read-kept : decode input ≡ accepted (graphOf input)
-    read-kept = demand .read ∙ ap accepted same
-
     pub order-kept : OrderFree (graphOf input)
     order-kept = subst OrderFree same (demand .order)
 
