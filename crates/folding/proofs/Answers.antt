@@ -13,7 +13,6 @@ use borrow.Author.Tests.{ne-eqb, le-leb, lt-leb}
 use Rattle.ir.specs.Limits.{maxWires}
 use Rattle.ir.specs.declared.Wire.{Wire}
 use Rattle.value.specs.declared.Value.{Value}
-use Rattle.encoding.specs.Numbers.{bytesOf}
 use Rattle.encoding.specs.Wires.{wireBytes}
 use Rattle.graph.specs.Graph.{Graph}
 use Rattle.graph.specs.Decode.{accepted, decode}
@@ -29,6 +28,7 @@ use Rattle.model.proofs.Refusals.{at-graph}
 use Rattle.state.specs.Held.{knownOf}
 use Rattle.state.specs.Planned.{shapeAt, shapeOf, literalOf, valued, planOf, Shaped, Holds}
 use Rattle.answer.specs.Nodes.{knownRecords, literalFate, fateBy, fateRecords}
+use Rattle.emit.proofs.Fanning.{wires-size}
 use Rattle.folding.proofs.Alike.{wires-same, index-same, shape-alike}
 
 -- ---- the bytes
@@ -48,11 +48,6 @@ fate-same ws known actions details i h = go (getD actions i 0) h (ℕ-discrete (
     go a l (no p) (yes e) r = rw e (lit (known i))
     go a l (no p) (no q) (yes e) = rw e refl
     go a l (no p) (no q) (no r) = let e : a ≡ 3 = omega arith in rw e refl
-
-pub wires-size : (ws : List Wire) → length (each wireBytes ws) ≡ 7 * length ws
-unfolding each bytesOf
-wires-size [] = refl
-wires-size (w ∷ ws) = omega (arith, length-append (wireBytes w) (each wireBytes ws), wires-size ws)
 
 -- the answer's bytes by what the arrays hold
 abbrev pub bytesIn : ℕ → List ℕ → List ℕ → List ℕ → List Wire → List ℕ
