@@ -246,7 +246,6 @@ module _ (ws : List Wire) (n : ℕ) (actions details first next : List ℕ) (N :
   leaf : (steps : ℕ) (e : PortRef) → (getD actions (e .«node_id») 0 ≡ 3 → ⊥) → reach p steps e ≡ some (leadsTo p n e) → 0 < length (leadsTo p n e) → leadsTo p n e ≡ e ∷ []
   leaf steps e h q l = at (p (e .«node_id»)) refl
     where
-
       at : (o : Option PlanAction) → p (e .«node_id») ≡ o → leadsTo p n e ≡ e ∷ []
       at none r = sym (some-is (none-reach steps e r) q)
       at (some (BecomeLiteral v)) r = no-targets e (sym (literal-reach steps e v r) ∙ q) l
