@@ -1,0 +1,83 @@
+/* Folds document 01's worked example, the empty graph and a graph that is refused, and prints what comes of each. */
+#include <stdio.h>
+
+#include "mezburiko.h"
+
+/* A Literal 2, an Add of it and 5, and a node that reads the sum. */
+static const uint8_t WORKED[] = {
+    0x01, 0x01, 0x00,                                           /* node 0: Literal */
+    0x01, 0x12, 0x00,                                           /* node 1: Add */
+    0x01, 0x00, 0x00,                                           /* node 2: any other */
+    0x02, 0, 0, 0x00, 1, 0, 0x02,                               /* wire from 0 to InputA of 1 */
+    0x02, 1, 0, 0x00, 2, 0, 0x02,                               /* wire from 1 to InputA of 2 */
+    0x03, 0, 0, 0x0A, 2, 0, 0, 0, 0, 0, 0, 0,                   /* Value of 0: Int 2 */
+    0x03, 1, 0, 0x03, 5, 0, 0, 0, 0, 0, 0, 0,                   /* InputB of 1: Int 5 */
+    0x0A, 0x12, 1, 1, 0,                                        /* row: Add of two Ints */
+};
+
+/* A Branch whose taken side leads back into it. */
+static const uint8_t CIRCLE[] = {
+    0x01, 0x05, 0x00,             /* node 0: Branch */
+    0x02, 0, 0, 0x07, 0, 0, 0x01, /* wire from ExecOutB of 0 to Exec of 0 */
+    0x05, 0, 0, 0x05, 0,          /* BCond of 0: false */
+    0x0A, 0x05, 3, 0, 0,          /* row: Branch on a Bool */
+};
+
+static uint8_t answer[MEZBURIKO_MAX_ANSWER];
+
+/* The length of an answer's record, by its kind. */
+static size_t record_length(uint8_t kind) {
+    switch (kind) {
+    case 0x10: /* kept */
+    case 0x11: /* removed */
+        return 3;
+    case 0x14: /* planned Bool */
+        return 4;
+    case 0x05: /* Bool */
+        return 5;
+    case 0x02: /* wire */
+        return 7;
+    case 0x12: /* planned Int */
+    case 0x13: /* planned Float */
+        return 11;
+    case 0x03: /* Int */
+    case 0x04: /* Float */
+        return 12;
+    case 0x15: /* planned Vector */
+        return 27;
+    case 0x06: /* Vector */
+    case 0x07: /* Rotator */
+        return 28;
+    default: /* 0x08 Quat, 0x09 Color */
+        return 36;
+    }
+}
+
+static void print_records(const uint8_t *records, size_t length) {
+    size_t start, i;
+    for (start = 0; start < length; start += record_length(records[start])) {
+        for (i = 0; i < record_length(records[start]); i++) {
+            printf(" %02X", records[start + i]);
+        }
+        putchar('\n');
+    }
+}
+
+static void fold(const char *name, const uint8_t *input, size_t input_length, uint8_t *out, size_t out_length) {
+    size_t place, length, pops;
+    uint8_t number = mezburiko_fold(input, input_length, out, out_length, &place, &length, &pops);
+    if (number == MEZBURIKO_ACCEPTED) {
+        printf("%s: accepted, %zu bytes, %zu pops\n", name, length, pops);
+        print_records(out, length);
+    } else {
+        printf("%s: refused %u at %zu\n", name, (unsigned)number, place);
+    }
+}
+
+int main(void) {
+    fold("worked example", WORKED, sizeof WORKED, answer, sizeof answer);
+    fold("worked example, a byte too little", WORKED, sizeof WORKED, answer, 47);
+    fold("empty graph", NULL, 0, NULL, 0);
+    fold("circle", CIRCLE, sizeof CIRCLE, answer, sizeof answer);
+    return 0;
+}
