@@ -5,14 +5,14 @@
 
 /* A Literal 2, an Add of it and 5, and a node that reads the sum. */
 static const uint8_t WORKED[] = {
-    0x01, 0x01, 0x00,                                           /* node 0: Literal */
-    0x01, 0x12, 0x00,                                           /* node 1: Add */
-    0x01, 0x00, 0x00,                                           /* node 2: any other */
-    0x02, 0, 0, 0x00, 1, 0, 0x02,                               /* wire from 0 to InputA of 1 */
-    0x02, 1, 0, 0x00, 2, 0, 0x02,                               /* wire from 1 to InputA of 2 */
-    0x03, 0, 0, 0x0A, 2, 0, 0, 0, 0, 0, 0, 0,                   /* Value of 0: Int 2 */
-    0x03, 1, 0, 0x03, 5, 0, 0, 0, 0, 0, 0, 0,                   /* InputB of 1: Int 5 */
-    0x0A, 0x12, 1, 1, 0,                                        /* row: Add of two Ints */
+    0x01, 0x01, 0x00,                         /* node 0: Literal */
+    0x01, 0x12, 0x00,                         /* node 1: Add */
+    0x01, 0x00, 0x00,                         /* node 2: any other */
+    0x02, 0, 0, 0x00, 1, 0, 0x02,             /* wire from 0 to InputA of 1 */
+    0x02, 1, 0, 0x00, 2, 0, 0x02,             /* wire from 1 to InputA of 2 */
+    0x03, 0, 0, 0x0A, 2, 0, 0, 0, 0, 0, 0, 0, /* Value of 0: Int 2 */
+    0x03, 1, 0, 0x03, 5, 0, 0, 0, 0, 0, 0, 0, /* InputB of 1: Int 5 */
+    0x0A, 0x12, 1, 1, 0,                      /* row: Add of two Ints */
 };
 
 /* A Branch whose taken side leads back into it. */
