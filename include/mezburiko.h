@@ -1,9 +1,9 @@
 /*
  * Mezburiko: folds the constants of a gate graph, for C99 and C++.
  *
- * The static library is target/staticlib/libfolding.a, which `rt staticlib folding` makes for x86-64 Linux. Of its host
- * it needs memcpy, memset and fmod (libm), nothing else. docs/01-scope.md has the records of graphs and answers, and the
- * rules.
+ * The static library is target/staticlib/libfolding.a, which `rt staticlib folding` makes for x86-64 Linux. Of its
+ * host it needs memcpy, memset and fmod (libm), nothing else. docs/01-scope.md has the records of graphs and answers,
+ * and the rules.
  */
 #ifndef MEZBURIKO_H
 #define MEZBURIKO_H
