@@ -4,6 +4,7 @@
 This is the one table of the tools. `tables.py --rust` prints it as Rust, for the programs under compare/;
 `tests/graph_tool` holds it to crates/ir. A `constant` is the name in crates/ir, a `name` the one in the text form.
 """
+import struct
 import sys
 from typing import NamedTuple
 
@@ -29,12 +30,11 @@ class Class(NamedTuple):
 
 
 class Variant(NamedTuple):
-    """A variant of an operand; `parts` names the numbers of its value, `code` is their struct format."""
+    """A variant of an operand; `parts` names the numbers of its value."""
     number: int
     constant: str
     name: str
     parts: tuple
-    code: str
 
 
 class Kind(NamedTuple):
@@ -49,7 +49,12 @@ class Kind(NamedTuple):
     @property
     def length(self):
         """The length of the record with its kind byte."""
-        return 1 + sum(FIELD_SIZES[field] for field in self.fields)
+        return struct.calcsize(self.format)
+
+    @property
+    def format(self):
+        """The struct format of the record: the kind byte and the fields."""
+        return '<B' + ''.join(FIELD_CODES[field] for field in self.fields)
 
 
 class Refusal(NamedTuple):
@@ -137,14 +142,14 @@ LOGICAL_AND, LOGICAL_OR = 12, 13
 ANNIHILATORS = {LOGICAL_AND: False, LOGICAL_OR: True}
 
 VARIANTS = tuple(Variant(number, *entry) for number, entry in enumerate([
-    ('UNWIRED', 'Unwired', (), ''),
-    ('INT', 'Int', ('int',), '<q'),
-    ('FLOAT', 'Float', ('float',), '<d'),
-    ('BOOL', 'Bool', ('bool',), '<B'),
-    ('VECTOR', 'Vector', ('x', 'y', 'z'), '<3d'),
-    ('ROTATOR', 'Rotator', ('pitch', 'yaw', 'roll'), '<3d'),
-    ('QUAT', 'Quat', ('x', 'y', 'z', 'w'), '<4d'),
-    ('COLOR', 'Color', ('r', 'g', 'b', 'a'), '<4d'),
+    ('UNWIRED', 'Unwired', ()),
+    ('INT', 'Int', ('int',)),
+    ('FLOAT', 'Float', ('float',)),
+    ('BOOL', 'Bool', ('bool',)),
+    ('VECTOR', 'Vector', ('x', 'y', 'z')),
+    ('ROTATOR', 'Rotator', ('pitch', 'yaw', 'roll')),
+    ('QUAT', 'Quat', ('x', 'y', 'z', 'w')),
+    ('COLOR', 'Color', ('r', 'g', 'b', 'a')),
 ]))
 UNWIRED, INT, FLOAT, BOOL, VECTOR, ROTATOR, QUAT, COLOR = VARIANTS
 ROW_VARIANTS = 3
@@ -154,7 +159,8 @@ FLAGS = {'NOFOLD': 0x01}
 NOFOLD = FLAGS['NOFOLD']
 LISTED_FLAGS = 0x01
 
-FIELD_SIZES = {'class': 1, 'flags': 1, 'node': 2, 'port': 1, 'variant': 1, 'int': 8, 'float': 8, 'bool': 1}
+# the struct code of each field; a float stands as its bits
+FIELD_CODES = {'class': 'B', 'flags': 'B', 'node': 'H', 'port': 'B', 'variant': 'B', 'int': 'q', 'float': 'Q', 'bool': 'B'}
 
 
 def _value_fields(variant):

@@ -1,0 +1,155 @@
+"""What an answer did to its graph: which port each removed node took, and what each wire became."""
+from typing import NamedTuple
+
+from . import tables
+from .records import NotAnAnswer, Wire
+from .values import Value, is_true
+
+
+class Taken(NamedTuple):
+    """The port that a removed Select or Branch took, its condition (None: Unwired) and the numbers of that port's wires."""
+    condition: Value
+    port: int
+    wires: tuple
+
+
+class Change(NamedTuple):
+    """The wires that a wire became, and in words why there is none."""
+    wires: list
+    reason: str = ''
+
+
+class Folded:
+    """Raises NotAnAnswer where the answer cannot be the graph's."""
+
+    def __init__(self, graph, answer):
+        self.graph, self.answer = graph, answer
+        self.into, self.out_of = {}, {}
+        for number, wire in enumerate(graph.wires):
+            self.into.setdefault((wire.target, wire.target_port), []).append(number)
+            self.out_of.setdefault((wire.source, wire.source_port), []).append(number)
+        self.values = {(item.node, item.port): item.value for item in graph.properties}
+        self.taken = {node: self._taken(node) for node, fate in enumerate(answer.fates) if fate.kind is tables.REMOVED}
+        self._leads = {}
+        self.changes = self._all_changes()
+
+    def removed(self, node, number_of_class):
+        return node in self.taken and self.graph.nodes[node].number_of_class == number_of_class
+
+    def is_literal(self, node):
+        """Whether the node was made a literal."""
+        return self.answer.fates[node].value is not None
+
+    def literal_value(self, node):
+        """The value that the node shows as a literal, whether it was made one or was one before."""
+        fate = self.answer.fates[node]
+        return fate.value if fate.value is not None else self.answer.known.get(node)
+
+    def _taken(self, node):
+        name, node_class = self.graph.names[node], self.graph.nodes[node].node_class
+        if node_class.number not in (tables.SELECT, tables.BRANCH):
+            raise NotAnAnswer('%s is removed, and a %s never is' % (name, node_class.name))
+        condition = self._condition(node, node_class.folding.inputs[0])
+        if node_class.number == tables.BRANCH:
+            port = tables.EXEC_OUT_A if is_true(condition) else tables.EXEC_OUT_B
+            return Taken(condition, port, tuple(self.out_of.get((node, port), ())))
+        port = tables.INPUT_B if is_true(condition) else tables.INPUT_A
+        wires = self.into.get((node, port), ())
+        if len(wires) != 1:
+            raise NotAnAnswer('%s is removed with %d wires at %s' % (name, len(wires), tables.PORTS[port].name))
+        return Taken(condition, port, tuple(wires))
+
+    def _condition(self, node, port):
+        wires = self.into.get((node, port), ())
+        if not wires:
+            return self.values.get((node, port))
+        source = self.graph.wires[wires[0]].source
+        if len(wires) > 1 or source not in self.answer.known:
+            raise NotAnAnswer('%s is removed, and its condition is not known' % self.graph.names[node])
+        return self.answer.known[source]
+
+    def _all_changes(self):
+        changes, count = [], 0
+        for wire in self.graph.wires:
+            changes.append(self._change(wire))
+            count += len(changes[-1].wires)
+            if count > tables.ANSWER_WIRES:
+                break
+        if [wire for change in changes for wire in change.wires] != self.answer.wires:
+            raise NotAnAnswer('its wires are not what this graph and these fates give')
+        return changes
+
+    def _change(self, wire):
+        reason = self._reason(wire)
+        if reason:
+            return Change([], reason)
+        if not self._leads_on(wire.target):
+            return Change([], '%s is removed and leads to no node that remains' % self.graph.names[wire.target])
+        source, port = self._source(wire.source, wire.source_port)
+        if self.removed(source, tables.BRANCH):
+            return Change([], 'it starts at %s, which is removed' % self.graph.names[source])
+        targets = self._targets(wire.target, wire.target_port, tables.ANSWER_WIRES + 1)
+        return Change([Wire(source, port, *target) for target in targets])
+
+    def _reason(self, wire):
+        """Why a wire is dropped for its target alone; empty where it is not."""
+        name = self.graph.names[wire.target]
+        if self.is_literal(wire.target):
+            return '%s is a literal now' % name
+        into_branch = self.removed(wire.target, tables.BRANCH) and wire.target_port != tables.EXEC
+        return '%s is removed' % name if into_branch or self.removed(wire.target, tables.SELECT) else ''
+
+    def _source(self, node, port):
+        """Where a source comes to behind removed Selects."""
+        passed = set()
+        while self.removed(node, tables.SELECT):
+            if node in passed:
+                raise NotAnAnswer('removed Selects lead in a cycle')
+            passed.add(node)
+            wire = self.graph.wires[self.taken[node].wires[0]]
+            node, port = wire.source, wire.source_port
+        return (node, tables.OUTPUT) if self.is_literal(node) else (node, port)
+
+    def _next(self, branch):
+        """The taken wires of a removed Branch that are not dropped at once."""
+        wires = [self.graph.wires[number] for number in self.taken[branch].wires]
+        return [wire for wire in wires if not self._reason(wire)]
+
+    def _leads_on(self, node):
+        """Whether a node remains, or is a removed Branch that leads to one that remains."""
+        if node not in self._leads:
+            order, path = [node], set()
+            while order:
+                self._visit(order, path)
+        return self._leads[node]
+
+    def _visit(self, order, path):
+        """One step of the search in depth: the last node of `order` is settled, or what it needs is added."""
+        node = order[-1]
+        if node in self._leads or not self.removed(node, tables.BRANCH):
+            self._leads.setdefault(node, True)
+            order.pop()
+            return
+        targets = [wire.target for wire in self._next(node)]
+        waiting = [target for target in targets if target not in self._leads]
+        if waiting and node in path:
+            raise NotAnAnswer('removed Branches lead in a cycle')
+        if waiting:
+            path.add(node)
+            order.extend(waiting)
+            return
+        path.discard(node)
+        self._leads[node] = any(self._leads[target] for target in targets)
+        order.pop()
+
+    def _targets(self, node, port, most):
+        """The ends that a wire into a node comes to behind removed Branches, in order, as far as `most`."""
+        found, ahead = [], [(node, port)]
+        while ahead and len(found) < most:
+            node, port = ahead.pop()
+            if self.removed(node, tables.BRANCH):
+                ends = [(wire.target, wire.target_port) for wire in self._next(node) if self._leads_on(wire.target)]
+                ahead.extend(reversed(ends))
+            else:
+                found.append((node, port))
+        return found
