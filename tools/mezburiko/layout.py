@@ -119,13 +119,12 @@ def layers_of(count, after, most):
     return [used[number] for number in layer], back
 
 
-def settle(wanted, weights, apart):
-    """Places in order, `apart[i]` or more between i and i + 1, as near to the wanted ones as can be."""
-    shift, blocks = 0.0, []
-    shifts = []
-    for i, (want, weight) in enumerate(zip(wanted, weights)):
-        shift += apart[i - 1] if i else 0.0
-        shifts.append(shift)
+def settle(wanted, weights, apart, low, high):
+    """Places in order from `low` to `high`, `apart[i]` or more between i and i + 1, as near to the wanted ones as can be."""
+    shifts, blocks = [0.0], []
+    for gap in apart:
+        shifts.append(shifts[-1] + gap)
+    for want, weight, shift in zip(wanted, weights, shifts):
         blocks.append([want - shift, weight, 1])
         while len(blocks) > 1 and blocks[-2][0] > blocks[-1][0]:
             mean, total, size = blocks.pop()
@@ -133,7 +132,7 @@ def settle(wanted, weights, apart):
             last[0] = (last[0] * last[1] + mean * total) / (last[1] + total)
             last[1] += total
             last[2] += size
-    places = [mean for mean, _, size in blocks for _ in range(size)]
+    places = [max(low, min(high - shifts[-1], mean)) for mean, _, size in blocks for _ in range(size)]
     return [place + shift for place, shift in zip(places, shifts)]
 
 
@@ -262,8 +261,11 @@ class _Placement:
     def _place_rows(self):
         """The middle of each item: near its neighbours within a layer, then below the band before."""
         self.middle = [0.0] * len(self.heights)
-        for layer in self.layers:
-            y = -sum(self.heights[item] + BOX_GAP for item in layer) / 2
+        self.room = {}
+        for number, layer in enumerate(self.layers):
+            height = sum(self.heights[item] + BOX_GAP for item in layer)
+            band, y = number // self.per_band, -height / 2
+            self.room[band] = max(self.room.get(band, 0.0), 1.1 * height + 4 * BOX_GAP)
             for item in layer:
                 self.middle[item] = y + self.heights[item] / 2
                 y += self.heights[item] + BOX_GAP
@@ -289,7 +291,9 @@ class _Placement:
                 last = layer[i - 1]
                 gap = BOX_GAP if item < self.count or last < self.count else 0
                 apart.append((self.heights[last] + self.heights[item]) / 2 + gap)
-        for item, middle in zip(layer, settle(wanted, weights, apart)):
+        room = self.room[self.band(layer[0])] / 2
+        low, high = self.heights[layer[0]] / 2 - room, room - self.heights[layer[-1]] / 2
+        for item, middle in zip(layer, settle(wanted, weights, apart, low, high)):
             self.middle[item] = middle
 
     def _stack_bands(self):
