@@ -2,7 +2,7 @@
 .PHONY: all test
 all:
 	@rt check fold
-	@compare/example
+	@tools/example
 
 test:
 	@.ci/run

@@ -31,6 +31,7 @@ text { font: 10px "DejaVu Sans Mono", Menlo, Consolas, monospace; fill: #222; }
 .wire.dropped { stroke: #c06060; stroke-dasharray: 2 4; }
 .wire.moved { stroke: #8a6d1a; stroke-dasharray: 9 3 2 3; }
 .wire.new { stroke: #1357b8; stroke-width: 2.2; }
+.wire.fault { stroke: #c00; stroke-width: 3; stroke-dasharray: 12 3; }
 """
 
 ARROW = ('<marker id="arrow" viewBox="0 0 8 8" refX="8" refY="4" markerWidth="8" markerHeight="8" '
@@ -109,18 +110,25 @@ def _card(graph, node, folded, left, right):
     return Card(node, style, shown(graph.names[node]), subtitle, value, left, right, tip)
 
 
-def draw(graph, answer, name):
-    """The picture; raises NotAnAnswer where the answer is not the graph's."""
+def draw(graph, name, answer=None, fault=None):
+    """The picture; `fault` is the number of a wire to point out. Raises NotAnAnswer where the answer is not the graph's."""
     if answer is None:
-        panels = [_panel(graph, '%s' % name, graph.wires, None, False)]
+        styles = [('fault' if number == fault else 'same', graph.wire_text(wire)) for number, wire in enumerate(graph.wires)]
+        panels = [_panel(name, cards_of(graph, graph.wires, None, False), graph.wires, styles)]
     else:
         folded = Folded(graph, answer)
-        panels = [_panel(graph, '%s, before folding' % name, graph.wires, folded, False),
-                  _panel(graph, '%s, after folding' % name, answer.wires, folded, True)]
-    legend = _legend(answer is not None)
-    width = max([legend[1]] + [panel[1] for panel in panels]) + 2 * MARGIN
+        panels = [_panel('%s, before folding' % name, cards_of(graph, graph.wires, folded, False), graph.wires,
+                         _styles_before(folded)),
+                  _panel('%s, after folding' % name, cards_of(graph, answer.wires, folded, True), answer.wires,
+                         _styles_after(folded))]
+    return _document(name, [_legend(answer is not None, fault is not None)] + panels)
+
+
+def _document(name, parts):
+    """Parts one below the other; each has lines, width and height."""
+    width = max(part[1] for part in parts) + 2 * MARGIN
     lines, y = [], MARGIN
-    for part, _, height in [legend] + panels:
+    for part, _, height in parts:
         lines += ['<g transform="translate(%d %d)">' % (MARGIN, y), *part, '</g>']
         y += height + MARGIN
     head = ['<?xml version="1.0" encoding="UTF-8"?>',
@@ -134,9 +142,8 @@ def _text(text):
     return escape(re.sub(r'[\x00-\x08\x0b\x0c\x0e-\x1f\ufffe\uffff\ud800-\udfff]', '?', text))
 
 
-def _panel(graph, heading, wires, folded, after):
+def _panel(heading, cards, wires, styles):
     """Lines, width and height of a graph with its heading."""
-    cards = cards_of(graph, wires, folded, after)
     place = {card.node: i for i, card in enumerate(cards)}
     edges = [Edge(place[wire.source], place[wire.target],
                   cards[place[wire.source]].y_of(wire.source_port, cards[place[wire.source]].right),
@@ -144,23 +151,24 @@ def _panel(graph, heading, wires, folded, after):
     result = layout([card.size for card in cards], edges)
     lines = ['<text class="heading" x="0" y="14">%s</text>' % _text(heading),
              '<g class="panel" transform="translate(0 24)">']
-    for (style, tip), path in zip(_wire_styles(graph, wires, folded, after), result.paths):
+    for (style, tip), path in zip(styles, result.paths):
         lines.append('<path class="wire %s" d="%s"><title>%s</title></path>' % (style, path, _text(tip)))
     for card, box in zip(cards, result.boxes):
         lines += _card_lines(card, box)
     return lines + ['</g>'], max(result.width, 9 * len(heading)), result.height + 24
 
 
-def _wire_styles(graph, wires, folded, after):
-    """The style of each wire, and what a pointer shows."""
-    if folded is None:
-        return [('same', graph.wire_text(wire)) for wire in wires]
-    if after:
-        before = set(graph.wires)
-        return [('same' if wire in before else 'new', graph.wire_text(wire)) for wire in wires]
+def _styles_before(folded):
+    """The style of each wire of the graph, and what a pointer shows."""
+    graph = folded.graph
     style = lambda wire, change: 'dropped' if not change.wires else 'same' if change.wires == [wire] else 'moved'
     return [(style(wire, change), '%s: %s' % (graph.wire_text(wire), wire_fate(graph, wire, change)))
-            for wire, change in zip(wires, folded.changes)]
+            for wire, change in zip(graph.wires, folded.changes)]
+
+
+def _styles_after(folded):
+    before = set(folded.graph.wires)
+    return [('same' if wire in before else 'new', folded.graph.wire_text(wire)) for wire in folded.answer.wires]
 
 
 def _card_lines(card, box):
@@ -187,10 +195,12 @@ def _box_lines(style, box):
     return lines
 
 
-def _legend(with_answer):
+def _legend(with_answer, with_fault):
     """Lines, width and height of the samples of each style that the picture uses."""
     boxes = BOX_LEGEND if with_answer else {'kept': 'node: number, class, values and ports'}
-    wires = WIRE_LEGEND if with_answer else {'same': 'wire'}
+    wires = dict(WIRE_LEGEND) if with_answer else {'same': 'wire'}
+    if with_fault:
+        wires['fault'] = 'wire that is refused'
     lines, x = ['<g class="legend">'], 0
     for style, words in boxes.items():
         lines += ['<g class="%s">' % style, *_box_lines(style, Box(x, 2, 34, 20)), '</g>']

@@ -43,7 +43,7 @@ def of_later_refusal(number, place, graph):
         lines.append('  where:      wire %d: %s' % (wire, graph.wire_text(graph.wires[wire])))
         cycle = find_cycle(graph, graph.wires[wire])
         if cycle:
-            lines.append('  the cycle:  ' + ' -> '.join(graph.names[node] for node in cycle + cycle[:1]))
+            lines.append('  look at:    the cycle ' + ' -> '.join(graph.names[node] for node in cycle + cycle[:1]))
     if number == 10:
         lines += _busiest_branch(graph)
     return lines + remedy(number)
