@@ -1,7 +1,7 @@
 """Pictures of graphs as SVG: the graph, and with an answer the folded one below it."""
 import re
 from typing import NamedTuple
-from xml.sax.saxutils import escape, quoteattr
+from xml.sax.saxutils import escape
 
 from . import tables
 from .explain import node_fate, wire_fate
@@ -60,9 +60,9 @@ class Card(NamedTuple):
     def size(self):
         lefts, rights = list(self.left.values()), list(self.right.values())
         rows = max(len(lefts), len(rights))
-        length = lambda labels: max(map(len, labels), default=0)
+        labels = max(map(len, lefts), default=0) + max(map(len, rights), default=0) + 2
         inner = max(NAME_WIDTH * len(self.name), TEXT_WIDTH * len(self.subtitle), NAME_WIDTH * len(self.value),
-                    TEXT_WIDTH * (length(lefts) + length(rights) + 2))
+                    TEXT_WIDTH * labels)
         return Size(max(70, round(inner) + 16), self.rows_top + ROW * rows + 6)
 
     def y_of(self, port, labels):
@@ -160,10 +160,11 @@ def _panel(heading, cards, wires, styles):
 
 def _styles_before(folded):
     """The style of each wire of the graph, and what a pointer shows."""
-    graph = folded.graph
-    style = lambda wire, change: 'dropped' if not change.wires else 'same' if change.wires == [wire] else 'moved'
-    return [(style(wire, change), '%s: %s' % (graph.wire_text(wire), wire_fate(graph, wire, change)))
-            for wire, change in zip(graph.wires, folded.changes)]
+    graph, styles = folded.graph, []
+    for wire, change in zip(graph.wires, folded.changes):
+        style = 'dropped' if not change.wires else 'same' if change.wires == [wire] else 'moved'
+        styles.append((style, '%s: %s' % (graph.wire_text(wire), wire_fate(graph, wire, change))))
+    return styles
 
 
 def _styles_after(folded):
@@ -173,16 +174,13 @@ def _styles_after(folded):
 
 def _card_lines(card, box):
     left, right = box.x + 8, box.x + box.width - 8
-    label = lambda style, x, y, text: '<text class=%s x="%.1f" y="%.1f">%s</text>' % (quoteattr(style), x, y, _text(text))
-    lines = ['<g class="node %s" data-node="%d">' % (card.style, card.node), '<title>%s</title>' % _text(card.tip),
-             *_box_lines(card.style, box), label('name', left, box.y + 17, card.name),
-             label('class', left, box.y + 30, card.subtitle)]
-    if card.value:
-        lines.append(label('value', left, box.y + 44, card.value))
+    labels = [('name', left, 17, card.name), ('class', left, 30, card.subtitle), ('value', left, 44, card.value)]
     for ports, x, style in ((card.left, left, 'in'), (card.right, right, 'out')):
-        for port, text in ports.items():
-            lines.append(label(style, x, box.y + card.y_of(port, ports) + 3.5, text))
-    return lines + ['</g>']
+        labels += [(style, x, card.y_of(port, ports) + 3.5, text) for port, text in ports.items()]
+    return ['<g class="node %s" data-node="%d">' % (card.style, card.node), '<title>%s</title>' % _text(card.tip),
+            *_box_lines(card.style, box),
+            *('<text class="%s" x="%.1f" y="%.1f">%s</text>' % (style, x, box.y + y, _text(text))
+              for style, x, y, text in labels if text), '</g>']
 
 
 def _box_lines(style, box):

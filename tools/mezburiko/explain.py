@@ -63,15 +63,15 @@ def find_cycle(graph, wire):
             ahead.setdefault(source, []).append(target)
         if target_port in (tables.INPUT_A, tables.INPUT_B):
             behind.setdefault(target, []).append(source)
-    is_class = lambda number: lambda node: graph.nodes[node].number_of_class == number and not graph.nodes[node].nofold
-    cycle = _cycle_from(wire.target, ahead, is_class(tables.BRANCH))
-    return cycle or _cycle_from(wire.source, behind, is_class(tables.SELECT))[::-1]
+    branches, selects = ({number for number, node in enumerate(graph.nodes) if node == (which, 0)}
+                         for which in (tables.BRANCH, tables.SELECT))
+    return _cycle_from(wire.target, ahead, branches) or _cycle_from(wire.source, behind, selects)[::-1]
 
 
 def _cycle_from(start, steps, allowed):
     """A shortest cycle among the allowed nodes that can be reached from `start`, or an empty list."""
     best = []
-    for node in _reached([start] if allowed(start) else [], steps, allowed):
+    for node in _reached([start] if start in allowed else [], steps, allowed):
         came = _reached([node], steps, allowed)
         ends = [last for last in came if node in steps.get(last, ())]
         if ends:
@@ -89,7 +89,7 @@ def _reached(starts, steps, allowed):
     came = {node: None for node in starts}
     for node in (queue := list(starts)):
         for after in steps.get(node, ()):
-            if allowed(after) and after not in came:
+            if after in allowed and after not in came:
                 came[after] = node
                 queue.append(after)
     return came

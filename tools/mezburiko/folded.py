@@ -48,7 +48,7 @@ class Folded:
     def _taken(self, node):
         name, node_class = self.graph.names[node], self.graph.nodes[node].node_class
         if node_class.number not in (tables.SELECT, tables.BRANCH):
-            raise NotAnAnswer('%s is removed, and a %s never is' % (name, node_class.name))
+            raise NotAnAnswer('%s is removed, and no %s ever is' % (name, node_class.name))
         condition = self._condition(node, node_class.folding.inputs[0])
         if node_class.number == tables.BRANCH:
             port = tables.EXEC_OUT_A if is_true(condition) else tables.EXEC_OUT_B

@@ -165,11 +165,11 @@ class _Placement:
 
     def _add_lanes(self):
         """Lanes for edges within a band, the shortest edges first, as long as there are some left."""
-        span = lambda edge: abs(self.layer[edge.source] - self.layer[edge.target])
+        spans = [abs(self.layer[edge.source] - self.layer[edge.target]) for edge in self.edges]
         shared, left = {}, LANES_PER_BOX * self.count + 100
-        for number in sorted(range(len(self.edges)), key=lambda number: span(self.edges[number])):
+        for number in sorted(range(len(self.edges)), key=lambda number: spans[number]):
             edge = self.edges[number]
-            if self.band(edge.source) == self.band(edge.target) and span(edge) <= left:
+            if self.band(edge.source) == self.band(edge.target) and spans[number] <= left:
                 before = len(self.heights)
                 self.lanes[number] = self._back_lanes(edge) if self._is_back(edge) else self._lanes(edge, shared)
                 left -= len(self.heights) - before

@@ -122,7 +122,7 @@ def decode(data):
 
 
 def listed(names, numbers):
-    """`0 Output, 1 Exec, ..`: what a field may have, in words."""
+    """`0 (Output) to 9 (InputC)`, `12 (LogicalAnd) or 13 (LogicalOr)`: what a field may have."""
     numbers = list(numbers)
     if len(numbers) > 3:
         return '%d (%s) to %d (%s)' % (numbers[0], names[numbers[0]].name, numbers[-1], names[numbers[-1]].name)
@@ -262,8 +262,8 @@ class _Reader:
 
 
 def kind_words(kind):
-    """`a wire`, `an Int property`: a record of the kind."""
-    name = kind.name + (' property' if kind.role == 'Property' else '')
+    """`a wire`, `an Int property`, `a fate (kept)`: a record of the kind."""
+    name = {'Property': kind.name + ' property', 'Fate': 'fate (%s)' % kind.name}.get(kind.role, kind.name)
     return ('an ' if name[0] in 'aeiouAEIOU' else 'a ') + name
 
 
