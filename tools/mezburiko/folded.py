@@ -28,6 +28,9 @@ class Folded:
         for number, wire in enumerate(graph.wires):
             self.into.setdefault((wire.target, wire.target_port), []).append(number)
             self.out_of.setdefault((wire.source, wire.source_port), []).append(number)
+        for node, fate in enumerate(answer.fates):
+            if fate.value is not None and answer.known.get(node) != fate.value:
+                raise NotAnAnswer('%s is made a literal that is not its known value' % graph.names[node])
         self.values = {(item.node, item.port): item.value for item in graph.properties}
         self.taken = {node: self._taken(node) for node, fate in enumerate(answer.fates) if fate.kind is tables.REMOVED}
         self._leads = {}
@@ -39,11 +42,6 @@ class Folded:
     def is_literal(self, node):
         """Whether the node was made a literal."""
         return self.answer.fates[node].value is not None
-
-    def literal_value(self, node):
-        """The value that the node shows as a literal, whether it was made one or was one before."""
-        fate = self.answer.fates[node]
-        return fate.value if fate.value is not None else self.answer.known.get(node)
 
     def _taken(self, node):
         name, node_class = self.graph.names[node], self.graph.nodes[node].node_class
@@ -131,12 +129,12 @@ class Folded:
             order.pop()
             return
         targets = [wire.target for wire in self._next(node)]
-        waiting = [target for target in targets if target not in self._leads]
-        if waiting and node in path:
+        unsettled = [target for target in targets if target not in self._leads]
+        if unsettled and node in path:
             raise NotAnAnswer('removed Branches lead in a cycle')
-        if waiting:
+        if unsettled:
             path.add(node)
-            order.extend(waiting)
+            order.extend(unsettled)
             return
         path.discard(node)
         self._leads[node] = any(self._leads[target] for target in targets)
