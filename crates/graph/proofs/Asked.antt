@@ -1,17 +1,22 @@
 -- The first `no` of a list of questions, and what a record that answers each with yes tells.
 use Prim.Native.Nat.{ℕ, _+_, _≤_}
 use native.Mathlib.Omega.{arith}
-use mathlib.Core.Path.{_≡_, refl, ap}
+use mathlib.Core.Path.{_≡_, refl, sym, ap, _∙_}
 use mathlib.Core.Bool.{Bool, true, false, cond, _&&_}
 use mathlib.Core.List.{List, [], _∷_}
 use lib.ListN.{length}
 use lib.Dec.{ltb}
-use borrow.Author.Tests.{leb-true, ltb-true}
+use borrow.Author.Tests.{leb-true, ltb-true, le-leb}
+use Rattle.ir.specs.Kinds.{roleOf}
+use Rattle.ir.specs.declared.Role.{Role}
+use Rattle.ir.specs.declared.Role.the-variants.{Unlisted, Node, Wire, Property, Row, Annihilator}
 use Rattle.encoding.specs.Numbers.{byte}
 use Rattle.graph.specs.Graph.{Graph, countsOf}
-use Rattle.graph.specs.Layout.{roleAt, sizeAt}
+use Rattle.graph.specs.Layout.{roleAt, sizeAt, sizeOf}
 use Rattle.graph.specs.Questions.{Context, Question, questions, firstNo, isKind, isListed, hasNodes, isFirst, hasRoom}
 use Rattle.graph.specs.Decode.{refusalAt}
+use Rattle.graph.specs.Index.{Held, Next}
+use Rattle.graph.specs.declared.Counts.{Counts}
 use Rattle.graph.proofs.Roles.{and-left, and-right}
 
 module _ (q : Question) (qs : List Question) (x : Context) where
@@ -69,4 +74,46 @@ passed last g s at e =
       there = h .1 .1 .1 .1 .0;
       new = h .1 .1 .1 .1 .1 .0;
       fits = h .1 .1 .1 .1 .1 .1 .0;
+    }
+
+-- .. and such a record is not refused
+pub asked : (last : ℕ) (g : Graph) (s : List ℕ) (at : ℕ) → Passed last g s at → refusalAt last g s at ≡ 0
+unfolding refusalAt
+asked last g s at p =
+    passes _ _ _ (p .kind)
+    ∙ passes _ _ _ (le-leb _ _ (p .whole))
+    ∙ passes _ _ _ (p .listed)
+    ∙ passes _ _ _ (le-leb _ _ (p .rises))
+    ∙ passes _ _ _ (p .there)
+    ∙ passes _ _ _ (p .new)
+    ∙ passes _ _ _ (p .fits)
+    ∙ none-left _
+
+listed-kind : (r : Role) (s : List ℕ) (at : ℕ) → isListed r s at ≡ true → isKind r ≡ true
+listed-kind Unlisted s at e = e
+listed-kind Node s at e = refl
+listed-kind Wire s at e = refl
+listed-kind Property s at e = refl
+listed-kind Row s at e = refl
+listed-kind Annihilator s at e = refl
+
+-- one more record of a kind
+pub next-of : {kind size : ℕ} {role : Role} {c : Counts} {s : List ℕ} {at : ℕ} {table : List ℕ} → role ≡ roleOf kind → size ≡ sizeOf kind → at + size ≤ length s → byte s at ≡ kind → isListed role s at ≡ true → hasNodes (c .nodes) role s at ≡ true → hasRoom c role ≡ true → ((g : Graph) → Held g c s table → isFirst g role s at ≡ true) → Next kind c s at table
+next-of {kind} {size} {role} {c} {s} {at} r z w k l n f new =
+    let q : role ≡ roleAt s at = r ∙ ap roleOf (sym k) in
+    let long : sizeAt s at ≡ sizeOf kind = ap sizeOf k in
+    record {
+      kind-byte = k;
+      passes = λ g h.
+          asked kind g s at
+          (record {
+            kind = listed-kind (roleAt s at) s at (rw q at l);
+            whole = omega arith;
+            listed = rw q at l;
+            rises = omega arith;
+            there = rw (h .counts, q) at n;
+            new = rw q at (new g h);
+            fits = rw (h .counts, q) at f;
+          });
+      inside = omega arith;
     }

@@ -15,6 +15,7 @@ use Rattle.encoding.specs.Values.{valueAt}
 use Rattle.graph.specs.Graph.{Graph, lookup, countsOf}
 use Rattle.graph.specs.Layout.{roleAt, sizeAt, sizeBy}
 use Rattle.graph.specs.Questions.{isListed, hasNodes}
+use Rattle.graph.specs.Decode.{refusalAt}
 use Rattle.graph.specs.declared.Counts.{Counts}
 use Rattle.graph.specs.declared.Property.{Property}
 
@@ -49,3 +50,9 @@ pub record Sound (n : ℕ) (role : Role) (s : List ℕ) (at : ℕ) : Type 0 wher
   pub listed : isListed role s at ≡ true
   pub there : hasNodes n role s at ≡ true
   pub few : n ≤ maxNodes
+
+-- the record at an offset is of this kind and passes the questions, where the one before it is of the same kind
+pub record Next (kind : ℕ) (c : Counts) (s : List ℕ) (at : ℕ) (table : List ℕ) : Type 0 where
+  pub kind-byte : byte s at ≡ kind
+  pub passes : (g : Graph) → Held g c s table → refusalAt kind g s at ≡ 0
+  pub inside : at < length s

@@ -17,12 +17,13 @@ ghost use Prim.Native.Nat.{_+_, _≤_, _<_};
 ghost use lib.ListN.{length, getD};
 ghost use Rattle.encoding.specs.Numbers.{byte, u16At};
 ghost use Rattle.ir.specs.Classes.{isAnnihilator};
+ghost use Rattle.ir.specs.Kinds.{roleOf};
 ghost use Rattle.graph.specs.Graph.{Graph, countsOf, member};
-ghost use Rattle.graph.specs.Layout.{sizeBy};
+ghost use Rattle.graph.specs.Layout.{sizeBy, sizeOf};
 ghost use Rattle.graph.specs.Questions.{isKind, isListed, isVariant, hasNodes, isFirst, hasRoom};
 ghost use Rattle.graph.specs.Decode.{refusalAt};
 ghost use Rattle.graph.specs.Refusals.{Names};
-ghost use Rattle.graph.specs.Index.{Held, Sound, slot};
+ghost use Rattle.graph.specs.Index.{Held, Sound, Next, slot};
 
 fn wide(x: u8) -> usize
     ensures { λ r. ⌜ (r ≡ x) × (r < 256) ⌝ }
@@ -200,4 +201,28 @@ pub fn check(s: &[u8], at: usize, last: u8, counts: Counts, table: &[u16; SLOTS]
         return OptionRefusal::Some(Refusal::TooMany(at));
     }
     OptionRefusal::None
+}
+
+// Whether the record at an offset is one more of a kind, and passes. The records before it are counted, and the last of them is of the same kind.
+pub fn is_next(
+    kind: u8,
+    role: Role,
+    size: usize,
+    s: &[u8],
+    at: usize,
+    counts: Counts,
+    table: &[u16; SLOTS],
+) -> bool
+    requires { ⌜ (role ≡ roleOf kind) × (size ≡ sizeOf kind) × (at ≤ length (now s)) × (counts .nodes ≤ 1024) ⌝ }
+    ensures { λ r. ⌜ (r ≡ true → Next kind counts (now (s .entry)) at (now (table .entry))) ⌝ }
+{
+    if s.len() - at < size {
+        return false;
+    }
+    let listed = is_listed(role, s, at);
+    let present = has_nodes(counts.nodes, role, s, at);
+    if !((s[at] == kind) & listed & present & has_room(counts, role)) {
+        return false;
+    }
+    is_first(role, s, at, counts, table)
 }

@@ -1,9 +1,9 @@
 -- Document 01, "Classes: 0 any other, never folded; 1 Literal; ..".
 use Prim.Native.Nat.{ℕ}
-use mathlib.Core.Bool.{Bool, true, false, _||_}
+use mathlib.Core.Bool.{Bool, true, false, _&&_, _||_}
 use mathlib.Core.List.{List, [], _∷_}
 use lib.ListN.{length, getD}
-use lib.Dec.{ltb, eqb}
+use lib.Dec.{ltb, leb, eqb}
 use Rattle.ir.specs.declared.Folding.{Folding}
 use Rattle.ir.specs.declared.Folding.the-variants.{Never, Literal, Microchip, Select, Branch, Unary, Binary, Ternary}
 use Rattle.ir.specs.Ports.{output, inputA, inputB, thirdInput, bSelectB, bCond, rerInput}
@@ -27,6 +27,10 @@ isClass class = ltb class (length classes)
 
 abbrev pub foldingOf : ℕ → Folding
 foldingOf class = getD classes class Never
+
+-- "Logical and bitwise NOT, Abs, Sign, Negate, Round, Floor, Ceil and BitCount have one input"
+abbrev pub isUnary : ℕ → Bool
+isUnary class = eqb class 15 || (leb 23 class && leb class 25) || (leb 30 class && leb class 32) || eqb class 36 || eqb class 41
 
 -- "Logical and bitwise NOT, .. have one input, port 2; Clamp has three, ports 2, 3 and 9; the other gates from 6 have two, ports 2 and 3"
 abbrev pub inputPorts : Folding → List ℕ

@@ -3,7 +3,8 @@ use crate::Folding;
 use crate::port;
 use crate::wide;
 ghost use mathlib.Core.Path.{_≡_};
-ghost use Rattle.ir.specs.Classes.{foldingOf, inputCount, inputPort, hasRows, isClass, isAnnihilator};
+ghost use Rattle.ir.specs.Classes.{foldingOf, inputCount, inputPort, hasRows, isClass, isUnary, isAnnihilator};
+ghost use Prim.Native.Nat.{_<_};
 
 pub const COUNT: usize = 42;
 
@@ -89,66 +90,54 @@ pub const BITWISE_SHIFT_RIGHT: u8 = 40;
 
 pub const BITWISE_BIT_COUNT: u8 = 41;
 
-const FOLDINGS: [Folding; COUNT] = [
-    Folding::Never, // any other
-    Folding::Literal, // LITERAL
-    Folding::Microchip, // MICROCHIP_INPUT
-    Folding::Microchip, // MICROCHIP_OUTPUT
-    Folding::Select, // SELECT
-    Folding::Branch, // BRANCH
-    Folding::Binary, // COMPARE_EQUAL
-    Folding::Binary, // COMPARE_NOT_EQUAL
-    Folding::Binary, // COMPARE_LESS
-    Folding::Binary, // COMPARE_LESS_OR_EQUAL
-    Folding::Binary, // COMPARE_GREATER
-    Folding::Binary, // COMPARE_GREATER_OR_EQUAL
-    Folding::Binary, // LOGICAL_AND
-    Folding::Binary, // LOGICAL_OR
-    Folding::Binary, // LOGICAL_XOR
-    Folding::Unary, // LOGICAL_NOT
-    Folding::Binary, // LOGICAL_NAND
-    Folding::Binary, // LOGICAL_NOR
-    Folding::Binary, // MATH_ADD
-    Folding::Binary, // MATH_SUBTRACT
-    Folding::Binary, // MATH_MULTIPLY
-    Folding::Binary, // MATH_DIVIDE
-    Folding::Binary, // MATH_MODULO
-    Folding::Unary, // MATH_ABS
-    Folding::Unary, // MATH_SIGN
-    Folding::Unary, // MATH_NEGATE
-    Folding::Binary, // MATH_MIN
-    Folding::Binary, // MATH_MAX
-    Folding::Ternary, // MATH_CLAMP
-    Folding::Binary, // MATH_MOD_FLOORED
-    Folding::Unary, // ROUND
-    Folding::Unary, // FLOOR
-    Folding::Unary, // CEIL
-    Folding::Binary, // BITWISE_AND
-    Folding::Binary, // BITWISE_OR
-    Folding::Binary, // BITWISE_XOR
-    Folding::Unary, // BITWISE_NOT
-    Folding::Binary, // BITWISE_NAND
-    Folding::Binary, // BITWISE_NOR
-    Folding::Binary, // BITWISE_SHIFT_LEFT
-    Folding::Binary, // BITWISE_SHIFT_RIGHT
-    Folding::Unary, // BITWISE_BIT_COUNT
-];
-
 pub fn is_class(class: u8) -> bool
     ensures { λ r. ⌜ r ≡ isClass class ⌝ }
 {
     wide(class) < COUNT
 }
 
+// A class before the gates.
+fn folding_before_gates(class: u8) -> Folding
+    requires { ⌜ class < 6 ⌝ }
+    ensures { λ r. ⌜ r ≡ foldingOf class ⌝ }
+{
+    match class {
+        LITERAL => Folding::Literal,
+        MICROCHIP_INPUT => Folding::Microchip,
+        MICROCHIP_OUTPUT => Folding::Microchip,
+        SELECT => Folding::Select,
+        BRANCH => Folding::Branch,
+        _ => Folding::Never,
+    }
+}
+
+// Whether a gate has one input.
+fn is_unary(class: u8) -> bool
+    ensures { λ r. ⌜ r ≡ isUnary class ⌝ }
+{
+    (class == LOGICAL_NOT)
+        | ((MATH_ABS <= class) & (class <= MATH_NEGATE))
+        | ((ROUND <= class) & (class <= CEIL))
+        | (class == BITWISE_NOT)
+        | (class == BITWISE_BIT_COUNT)
+}
+
 pub fn folding_of(class: u8) -> Folding
     ensures { λ r. ⌜ r ≡ foldingOf class ⌝ }
 {
-    let i = wide(class);
-    if i < COUNT {
-        FOLDINGS[i]
-    } else {
-        Folding::Never
+    if class < COMPARE_EQUAL {
+        return folding_before_gates(class);
     }
+    if is_class(class) {
+        if class == MATH_CLAMP {
+            return Folding::Ternary;
+        }
+        if is_unary(class) {
+            return Folding::Unary;
+        }
+        return Folding::Binary;
+    }
+    Folding::Never
 }
 
 pub fn input_count(folding: Folding) -> usize

@@ -1,10 +1,7 @@
 // The kinds of records: what each says, and how long it is.
 use crate::Role;
-use crate::wide;
 ghost use mathlib.Core.Path.{_≡_};
 ghost use Rattle.ir.specs.Kinds.{roleOf, bodyOf};
-
-pub const COUNT: usize = 12;
 
 pub const NODE: u8 = 0x01;
 
@@ -28,34 +25,43 @@ pub const ROW: u8 = 0x0A;
 
 pub const ANNIHILATOR: u8 = 0x0B;
 
-const ROLES: [Role; COUNT] = [
-    Role::Unlisted,
-    Role::Node,
-    Role::Wire,
-    Role::Property,
-    Role::Property,
-    Role::Property,
-    Role::Property,
-    Role::Property,
-    Role::Property,
-    Role::Property,
-    Role::Row,
-    Role::Annihilator,
-];
-
-const BODIES: [usize; COUNT] = [0, 2, 6, 11, 11, 4, 27, 27, 35, 35, 4, 1];
-
 pub fn role_of(kind: u8) -> Role
     ensures { λ r. ⌜ r ≡ roleOf kind ⌝ }
 {
-    let i = wide(kind);
-    if i < COUNT { ROLES[i] } else { Role::Unlisted }
+    match kind {
+        0 => Role::Unlisted,
+        NODE => Role::Node,
+        WIRE => Role::Wire,
+        INT => Role::Property,
+        FLOAT => Role::Property,
+        BOOL => Role::Property,
+        VECTOR => Role::Property,
+        ROTATOR => Role::Property,
+        QUAT => Role::Property,
+        COLOR => Role::Property,
+        ROW => Role::Row,
+        ANNIHILATOR => Role::Annihilator,
+        _ => Role::Unlisted,
+    }
 }
 
 // The length of a record's body, without its kind byte.
 pub fn body_of(kind: u8) -> usize
     ensures { λ r. ⌜ r ≡ bodyOf kind ⌝ }
 {
-    let i = wide(kind);
-    if i < COUNT { BODIES[i] } else { 0 }
+    match kind {
+        0 => 0,
+        NODE => 2,
+        WIRE => 6,
+        INT => 11,
+        FLOAT => 11,
+        BOOL => 4,
+        VECTOR => 27,
+        ROTATOR => 27,
+        QUAT => 35,
+        COLOR => 35,
+        ROW => 4,
+        ANNIHILATOR => 1,
+        _ => 0,
+    }
 }

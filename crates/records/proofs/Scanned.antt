@@ -1,25 +1,28 @@
--- The loop's invariant: what is left to scan is what `decode` asks, from the graph so far.
+-- Laws of what the decoder holds on its way: the start, one record further, and the end.
 use Prim.Native.Nat.{ℕ, zero, suc, _+_, _≤_, _<_}
 use native.Mathlib.Omega.{arith}
 use native.Mathlib.Decide.{decLt}
-use mathlib.Core.Path.{_≡_, refl, sym, ap, _∙_}
+use mathlib.Core.Path.{_≡_, refl, sym, ap, subst, _∙_}
 use mathlib.Core.Bool.{true, false}
 use mathlib.Core.List.{List, []}
 use lib.ListN.{List·getD-eq-default, length, getD, replicate, length-append, length-replicate, getD-replicate}
 use borrow.Author.Tests.{le-leb, lt-leb, lt-ltb, le-ltb, eq-eqb, ne-eqb, ltb-true}
 use Rattle.ir.specs.declared.Role.{Role}
 use Rattle.ir.specs.declared.Role.the-variants.{Unlisted as NoRole, Node as NodeRole, Wire as WireRole, Property as PropertyRole, Row as RowRole, Annihilator as AnnihilatorRole}
+use Rattle.ir.specs.Kinds.{roleOf}
 use Rattle.encoding.specs.Numbers.{byte}
 use Rattle.graph.specs.Graph.{Graph, empty, add, lookup, member, countsOf}
-use Rattle.graph.specs.Layout.{roleAt, sizeAt}
-use Rattle.graph.specs.Questions.{hasRoom}
+use Rattle.graph.specs.Layout.{roleAt, sizeAt, sizeOf}
+use Rattle.graph.specs.Questions.{hasRoom, isFirst}
 use Rattle.graph.specs.Decode.{accepted, refused, refusalAt, scan, decode, graphOf}
 use Rattle.graph.specs.Refusals.{counts, refusal, reported, numberOf}
-use Rattle.graph.specs.Index.{entryValue, Indexed, Held, slot}
+use Rattle.graph.specs.Index.{entryValue, Indexed, Held, Sound, Next, slot}
 use Rattle.graph.specs.declared.Counts.{Counts}
 use Rattle.graph.specs.declared.Refusal.{Refusal}
 use Rattle.graph.specs.declared.Refusal.the-variants.{TooLong, UnknownKind, CutOff, Unlisted, OutOfOrder, MissingNode, Repeated, TooMany}
-use Rattle.graph.proofs.Asked.{passed}
+use Rattle.records.specs.Scanned.{Scanned}
+use Rattle.graph.proofs.Asked.{Passed, passed}
+use Rattle.graph.proofs.Roles.{size-by}
 
 module _ (last : ℕ) (g : Graph) (s : List ℕ) (at : ℕ) where
   pub scan-stop : (fuel : ℕ) → length s ≤ at → scan fuel last g s at ≡ accepted g
@@ -59,17 +62,6 @@ module _ (g : Graph) (s : List ℕ) (at : ℕ) where
   few-annihilators PropertyRole = omega arith
   few-annihilators RowRole = omega arith
   few-annihilators AnnihilatorRole = rw length-append (omega arith)
-
-pub record Scanned (s : List ℕ) (table : List ℕ) (c : Counts) (last at : ℕ) : Type 0 where
-  pub graph : Graph
-  pub fuel : ℕ
-  pub held : Held graph c s table
-  pub few : length (graph .nodes) ≤ 1024
-  pub begun : 0 < length (graph .nodes) → 0 < at
-  pub few-annihilators : length (graph .annihilators) ≤ at
-  pub inside : at ≤ length s
-  pub enough : length s ≤ at + fuel
-  pub same : scan (length s) 0 empty s 0 ≡ scan fuel last graph s at
 
 abbrev zeros : Counts
 zeros = record { nodes = 0; wires = 0; properties = 0; rows = 0; annihilators = 0; «and_false» = false; «or_true» = false }
@@ -124,6 +116,47 @@ further s table table′ c c′ last at i h r d =
       enough = n .1;
       same = i .same ∙ n .2;
     }
+
+-- what is asked of one more record of a kind, and what it gives
+module _ {s table : List ℕ} {c : Counts} {role : Role} {kind size at : ℕ} (r : role ≡ roleOf kind) (z : size ≡ sizeOf kind) (i : Scanned s table c kind at) (n : Next kind c s at table) where
+  passes : Passed kind (i .graph) s at
+  passes = passed kind (i .graph) s at (n .passes (i .graph) (i .held))
+
+  pub role-here : role ≡ roleAt s at
+  role-here = r ∙ ap roleOf (sym (n .kind-byte))
+
+  pub whole-here : at + sizeAt s at ≤ length s
+  whole-here = passes .whole
+
+  pub size-here : at + size ≡ at + sizeAt s at
+  size-here = ap (λ (m : ℕ). at + m) (z ∙ ap sizeOf (sym (n .kind-byte)))
+
+  pub sound-here : Sound (c .nodes) role s at
+  sound-here =
+      rw role-here
+      (record {
+        whole = omega (arith, whole-here, size-by (byte s at));
+        listed = passes .listed;
+        there = rw (i .held .counts) (passes .there);
+        few = rw (i .held .counts) (i .few);
+      })
+
+  pub room-here : hasRoom c role ≡ true
+  room-here = rw (role-here, i .held .counts) (passes .fits)
+
+  pub new-here : isFirst (i .graph) role s at ≡ true
+  new-here = rw role-here (passes .new)
+
+  pub begun-here : 0 < c .nodes → 0 < at
+  begun-here = rw (i .held .counts) (i .begun)
+
+  pub few-here : c .annihilators ≤ length s
+  few-here = rw (i .held .counts) (omega (arith, i .few-annihilators, i .inside))
+
+  pub one-more : {table′ : List ℕ} {c′ : Counts} → c′ ≡ countsOf (add role (i .graph) s at) → Indexed (add role (i .graph) s at .properties) s table′ → Scanned s table′ c′ kind (at + size)
+  one-more {table′} {c′} e d =
+      let h : Held (add (roleAt s at) (i .graph) s at) c′ s table′ = record { counts = rw role-here at e; indexed = rw role-here at d } in
+      rw size-here (subst (λ (k : ℕ). Scanned s table′ c′ k (at + sizeAt s at)) (n .kind-byte) (further s table table′ c c′ kind at i (n .inside) (n .passes (i .graph) (i .held)) h))
 
 module _ (s : List ℕ) (small : length s ≤ 65536) where
   decode-scan : decode s ≡ scan (length s) 0 empty s 0

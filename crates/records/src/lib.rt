@@ -5,6 +5,7 @@ ghost use Rattle.graph.specs.Refusals.{reportOf, reported};
 ghost use Rattle.graph.specs.Index.{Indexed};
 
 pub mod access;
+pub mod run;
 
 use graph::Counts;
 use graph::Decoded;
@@ -46,7 +47,10 @@ pub fn decode(input: &[u8], table: &mut [u16; SLOTS]) -> Decoded
         let nodes = counts.nodes;
         scan::index(role, input, at, nodes, table);
         counts = scan::count(role, input, at, counts);
-        at = at + 1 + kind::body_of(last);
+        let size = 1 + kind::body_of(last);
+        let run = run::read_same(last, role, size, input, at + size, counts, table);
+        counts = run.counts;
+        at = run.at;
     }
     Decoded::Accepted(counts)
 }

@@ -9,7 +9,8 @@ use Rattle.graph.specs.Index.{Sound}
 use Rattle.graph.specs.Decode.{refusalAt}
 use Rattle.graph.specs.Layout.{roleAt, sizeAt}
 use Rattle.encoding.specs.Numbers.{byte}
-use Rattle.records.proofs.Scanned.{Scanned, start, further, positive, reports-long, reports-refused, reports-accepted}
+use Rattle.records.specs.Scanned.{Scanned}
+use Rattle.records.proofs.Scanned.{start, further, positive, reports-long, reports-refused, reports-accepted}
 use Rattle.graph.proofs.Asked.{passed}
 use Rattle.graph.proofs.Roles.{size-by}
 use Rattle.records.proofs.decode.Statement.{statement}
@@ -69,33 +70,42 @@ count-requires c κs =
     let i = c .before .before .before .before .before .before .before .before .before .loop .inv in
     (rw (c .before .before .role-of .ensures) (sound (c .before .before .before .before)), rw (c .before .before .role-of .ensures, i .held .counts) (p .fits), rw (i .held .counts) (omega (arith, i .few-annihilators, c .before .before .before .before .before .before .before .before .loop-test .taken, c .before .before .before .before .before .before .before .before .before .before .if1 .left)))
 
-add-at : tie.Need-add-at Inv-loop μ-loop
-add-at c = omega (arith, c .before .before .before .before .before .before .before .before .before .loop-test .taken, c .before .before .before .before .before .before .before .before .before .before .before .if1 .left)
-
 body-of-requires : tie.Need-body-of-requires Inv-loop μ-loop
 body-of-requires c κs = tt
 
-add-at-2 : tie.Need-add-at-2 Inv-loop μ-loop
-add-at-2 c =
+add-size : tie.Need-add-size Inv-loop μ-loop
+add-size c =
     let p = passed _ _ _ _ (ok (c .before .before .before .before .before .before)) in
     omega (arith, c .body-of .ensures, p .whole, c .before .before .before .before .before .before .before .before .before .before .before .before .if1 .left)
 
+add-read-same : tie.Need-add-read-same Inv-loop μ-loop
+add-read-same c =
+    let p = passed _ _ _ _ (ok (c .before .before .before .before .before .before)) in
+    omega (arith, c .body-of .ensures, p .whole, c .before .before .before .before .before .before .before .before .before .before .before .before .if1 .left)
+
+read-same-requires : tie.Need-read-same-requires Inv-loop μ-loop
+read-same-requires c κs =
+    let i = c .before .before .before .before .before .before .before .before .before .before .before .before .loop .inv in
+    let s = now (c .before .before .before .before .before .before .before .before .before .before .before .before .before .before .before .before .args .input) in
+    let at = c .before .before .before .before .before .before .before .before .before .before .before .before .loop .at in
+    let size : 1 + c .before .body-of .result ≡ sizeAt s at = omega (arith, c .before .body-of .ensures) in
+    let r = c .before .before .before .before .before .role-of .ensures in (
+      r,
+      size,
+      c .before .before .before .before .before .before .before .before .before .before .before .before .before .if1 .left,
+      rw size
+          (further _ _ _ _ _ _ _ i (c .before .before .before .before .before .before .before .before .before .before .before .loop-test .taken) (ok (c .before .before .before .before .before .before .before))
+          (record {
+            counts = rw r at (c .before .before .count .ensures (i .graph) (i .held .counts));
+            indexed = rw r at (c .before .before .before .index .ensures (i .graph) (rw r (passed _ _ _ _ (ok (c .before .before .before .before .before .before .before)) .new)) (i .held .indexed));
+          })),
+    )
+
 loop-less : tie.Need-loop-less Inv-loop μ-loop
-loop-less c = omega (arith, c .before .before .before .before .before .before .before .before .before .before .loop-test .taken)
+loop-less c = omega (arith, c .before .before .before .before .before .before .before .before .before .before .before .before .before .loop-test .taken, c .before .read-same .ensures .0)
 
 loop-again : tie.Need-loop-again Inv-loop μ-loop
-loop-again c =
-    let i = c .before .before .before .before .before .before .before .before .before .before .before .loop .inv in
-    let s = now (c .before .before .before .before .before .before .before .before .before .before .before .before .before .before .before .args .input) in
-    let at = c .before .before .before .before .before .before .before .before .before .before .before .loop .at in
-    let next : at + 1 + c .body-of .result ≡ at + sizeAt s at = omega (arith, c .body-of .ensures) in
-    let r = c .before .before .before .before .role-of .ensures in
-    rw next
-    (further _ _ _ _ _ _ _ i (c .before .before .before .before .before .before .before .before .before .before .loop-test .taken) (ok (c .before .before .before .before .before .before))
-    (record {
-      counts = rw r at (c .before .count .ensures (i .graph) (i .held .counts));
-      indexed = rw r at (c .before .before .index .ensures (i .graph) (rw r (passed _ _ _ _ (ok (c .before .before .before .before .before .before)) .new)) (i .held .indexed));
-    }))
+loop-again c = c .before .read-same .ensures .1
 
 returns-3 : tie.Need-returns-3 Inv-loop μ-loop
 returns-3 c = reports-accepted _ (c .before .before .if1 .left) _ _ _ _ (c .before .loop .inv) (c .loop-test .left)
@@ -116,9 +126,10 @@ decode-spec =
     role-of-requires
     index-requires
     count-requires
-    add-at
     body-of-requires
-    add-at-2
+    add-size
+    add-read-same
+    read-same-requires
     loop-less
     loop-again
     returns-3)

@@ -1,26 +1,68 @@
--- `ir::kind::body_of` meets its contract: its table is the lengths of specs/'s.
-use mathlib.Core.Path.{_∙_, sym, ap}
-use lib.ListN.{getD, List·getD-eq-default, List·getD-map}
-use native.Mathlib.Omega.{arith}
+-- `ir::kind::body_of` meets its contract.
+use Prim.Native.Nat.{ℕ}
+use mathlib.Core.Path.{sym, ap}
+use lib.ListN.{List·getD-eq-default}
 use borrow.Author.Needs.{needs}
-use Rattle.ir.specs.Kinds.{kinds, Kind, unlisted}
+use Rattle.ir.specs.Kinds.{Kind, kinds, unlisted}
+use Rattle.ir.proofs.Tables.{above}
 use Rattle.ir.proofs.kind.body_of.Statement.{statement}
 use Rattle.ir.proofs.kind.body_of.Tie as tie
 
-wide-requires : tie.Need-wide-requires
-wide-requires c κs = search needs
-
-mul-result : tie.Need-mul-result
-mul-result c = search needs
-
-array-read-result : tie.Need-array-read-result
-array-read-result c = search needs
-
 returns : tie.Need-returns
-returns c = List·getD-map (λ (k : Kind). k .body) kinds (c .before .wide .result) unlisted ∙ ap (λ n. getD kinds n unlisted .body) (c .before .wide .ensures)
+returns c = search needs
 
 returns-2 : tie.Need-returns-2
-returns-2 c = sym (ap (λ (k : Kind). k .body) (List·getD-eq-default kinds unlisted {n = c .before .before .args .kind} (omega arith)))
+returns-2 c = search needs
+
+returns-3 : tie.Need-returns-3
+returns-3 c = search needs
+
+returns-4 : tie.Need-returns-4
+returns-4 c = search needs
+
+returns-5 : tie.Need-returns-5
+returns-5 c = search needs
+
+returns-6 : tie.Need-returns-6
+returns-6 c = search needs
+
+returns-7 : tie.Need-returns-7
+returns-7 c = search needs
+
+returns-8 : tie.Need-returns-8
+returns-8 c = search needs
+
+returns-9 : tie.Need-returns-9
+returns-9 c = search needs
+
+returns-10 : tie.Need-returns-10
+returns-10 c = search needs
+
+returns-11 : tie.Need-returns-11
+returns-11 c = search needs
+
+returns-12 : tie.Need-returns-12
+returns-12 c = search needs
+
+returns-13 : tie.Need-returns-13
+returns-13 c =
+    let n : ℕ = c .before .args .kind in
+    sym (ap (λ (k : Kind). k .body) (List·getD-eq-default kinds unlisted {n = n} (above 12 n (c .match .rest))))
 
 pub body-of-spec : {M : Type 1} → statement M
-body-of-spec = tie.close (tie.spec wide-requires mul-result array-read-result returns returns-2)
+body-of-spec =
+    tie.close
+    (tie.spec
+    returns
+    returns-2
+    returns-3
+    returns-4
+    returns-5
+    returns-6
+    returns-7
+    returns-8
+    returns-9
+    returns-10
+    returns-11
+    returns-12
+    returns-13)

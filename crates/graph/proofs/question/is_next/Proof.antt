@@ -1,0 +1,82 @@
+-- `graph::question::is_next` meets its contract.
+use Prim.Native.Nat.{_+_, _≤_}
+use native.Mathlib.Omega.{arith}
+use mathlib.Core.Bool.{Bool, true, false≢true, _&&_}
+use mathlib.Core.Path.{_≡_, _∙_, sym, ap}
+use lib.Dec.{eqb}
+use lib.ListN.{length}
+use denote.Ref.{now}
+use borrow.Author.Tests.{not-false, eqb-true}
+use borrow.Author.Needs.{needs}
+use Rattle.encoding.specs.Numbers.{byte}
+use Rattle.graph.specs.Layout.{sizeBy}
+use Rattle.graph.proofs.Roles.{size-by, and-left, and-right}
+use Rattle.graph.proofs.Asked.{next-of}
+use Rattle.graph.proofs.question.is_next.Statement.{statement}
+use Rattle.graph.proofs.question.is_next.Tie as tie
+
+whole : (c : tie.Else1) → c .before .before .args .at + c .before .before .args .size ≤ length (now (c .before .before .args .s))
+whole c = omega arith
+
+by-role : (c : tie.Else1) → c .before .before .args .at + sizeBy (c .before .before .args .role) ≤ length (now (c .before .before .args .s))
+by-role c = omega (arith, whole c, ap sizeBy (c .before .before .pre .0), size-by (c .before .before .args .kind))
+
+four : (a b d e : Bool) → (((a && b) && d) && e) ≡ true → (a ≡ true) × (b ≡ true) × (d ≡ true) × (e ≡ true)
+four a b d e h =
+    let x = and-left ((a && b) && d) e h in
+    let y = and-left (a && b) d x in
+    (and-left a b y, and-right a b y, and-right (a && b) d x, and-right ((a && b) && d) e h)
+
+-- the tests that passed: the kind, question 4, question 6, question 8
+tests : (c : tie.Else2) → (eqb (byte (now (c .before .before .before .before .before .before .before .args .s)) (c .before .before .before .before .before .before .before .args .at)) (c .before .before .before .before .before .before .before .args .kind) ≡ true) × (c .before .before .before .before .is-listed .result ≡ true) × (c .before .before .before .has-nodes .result ≡ true) × (c .before .has-room .result ≡ true)
+tests c = four (eqb (byte (now (c .before .before .before .before .before .before .before .args .s)) (c .before .before .before .before .before .before .before .args .at)) (c .before .before .before .before .before .before .before .args .kind)) _ _ _ (not-false _ (c .if2 .left))
+
+sub-if1 : tie.Need-sub-if1
+sub-if1 c = search needs
+
+returns : tie.Need-returns
+returns c = λ e. absurd (false≢true e)
+
+is-listed-requires : tie.Need-is-listed-requires
+is-listed-requires c κs = by-role c
+
+has-nodes-requires : tie.Need-has-nodes-requires
+has-nodes-requires c κs = by-role (c .before)
+
+shared-slice-read-if2 : tie.Need-shared-slice-read-if2
+shared-slice-read-if2 c = search needs
+
+has-room-requires : tie.Need-has-room-requires
+has-room-requires c κs = search needs
+
+returns-2 : tie.Need-returns-2
+returns-2 c = λ e. absurd (false≢true e)
+
+is-first-requires : tie.Need-is-first-requires
+is-first-requires c κs =
+    record {
+      whole = by-role (c .before .before .before .before .before);
+      listed = sym (c .before .before .before .before .is-listed .ensures) ∙ tests c .1;
+      there = sym (c .before .before .before .has-nodes .ensures) ∙ tests c .2;
+      few = c .before .before .before .before .before .before .before .pre .3;
+    }
+
+returns-3 : tie.Need-returns-3
+returns-3 c =
+    λ e.
+    let b = c .before .before .before .before .before .before .before .before in
+    next-of (b .pre .0) (b .pre .1) (whole (c .before .before .before .before .before .before)) (eqb-true _ _ (tests (c .before) .0)) (sym (c .before .before .before .before .before .is-listed .ensures) ∙ tests (c .before) .1) (sym (c .before .before .before .before .has-nodes .ensures) ∙ tests (c .before) .2) (sym (c .before .before .has-room .ensures) ∙ tests (c .before) .3) (λ g h. sym (c .is-first .ensures g h) ∙ e)
+
+pub is-next-spec : {M : Type 1} → statement M
+is-next-spec =
+    tie.close
+    (tie.spec
+    sub-if1
+    returns
+    is-listed-requires
+    has-nodes-requires
+    shared-slice-read-if2
+    has-room-requires
+    returns-2
+    is-first-requires
+    returns-3)
