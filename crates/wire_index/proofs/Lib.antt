@@ -6,3 +6,4 @@ pub mod Slots
 pub mod Relinking
 pub mod Sorting
 pub mod Nodes
+pub mod Rises

@@ -1,9 +1,7 @@
 -- `records::run::read_run` meets its contract.
-use Prim.Native.Nat.{_+_, _-_, _≤_}
+use Prim.Native.Nat.{_-_, _≤_}
 use native.Mathlib.Omega.{arith}
-use mathlib.Core.Path.{_≡_}
 use lib.ListN.{length}
-use denote.Ref.{now}
 use Rattle.records.specs.Scanned.{Scanned}
 use Rattle.records.proofs.Scanned.{role-here, whole-here, size-here, sound-here, room-here, new-here, begun-here, few-here, one-more}
 use Rattle.records.proofs.run.read_run.Statement.{statement}
