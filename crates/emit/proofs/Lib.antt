@@ -1,4 +1,5 @@
 pub mod Stack
 pub mod Fanning
 pub mod Nets
+pub mod SharedChains
 pub mod Writing

@@ -111,15 +111,15 @@ module _ (ws : List Wire) (n : ℕ) (actions details first next : List ℕ) (N :
   branch-plan b e = rw e refl
 
   -- a Branch that leads to some target is entered at Exec, and some steps are left
-  record Entered (steps : ℕ) (e : PortRef) : Type 0 where
-    at-exec : e ≡ execOf (e .«node_id»)
-    left : ℕ
-    one-more : steps ≡ suc left
+  pub record Entered (steps : ℕ) (e : PortRef) : Type 0 where
+    pub at-exec : e ≡ execOf (e .«node_id»)
+    pub left : ℕ
+    pub one-more : steps ≡ suc left
 
   no-targets : {X : Type 0} (e : PortRef) → some [] ≡ some (leadsTo p n e) → 0 < length (leadsTo p n e) → X
   no-targets e q h = let z : [] ≡ leadsTo p n e = cc in let b : ⊥ = omega (arith, ap length z) in absurd b
 
-  enter : (steps : ℕ) (e : PortRef) → getD actions (e .«node_id») 0 ≡ 3 → reach p steps e ≡ some (leadsTo p n e) → 0 < length (leadsTo p n e) → Entered steps e
+  pub enter : (steps : ℕ) (e : PortRef) → getD actions (e .«node_id») 0 ≡ 3 → reach p steps e ≡ some (leadsTo p n e) → 0 < length (leadsTo p n e) → Entered steps e
   unfolding reach arrive
   enter zero e a q h = go (eqb (e .port) exec) (sym (ap (λ (o : Option PlanAction). arrive (λ ts. none) o e) (branch-plan (e .«node_id») a)) ∙ q)
     where
@@ -243,7 +243,7 @@ module _ (ws : List Wire) (n : ℕ) (actions details first next : List ℕ) (N :
           }
 
   -- a target that is no Branch is the only one that it leads to
-  leaf : (steps : ℕ) (e : PortRef) → (getD actions (e .«node_id») 0 ≡ 3 → ⊥) → reach p steps e ≡ some (leadsTo p n e) → 0 < length (leadsTo p n e) → leadsTo p n e ≡ e ∷ []
+  pub leaf : (steps : ℕ) (e : PortRef) → (getD actions (e .«node_id») 0 ≡ 3 → ⊥) → reach p steps e ≡ some (leadsTo p n e) → 0 < length (leadsTo p n e) → leadsTo p n e ≡ e ∷ []
   leaf steps e h q l = at (p (e .«node_id»)) refl
     where
       at : (o : Option PlanAction) → p (e .«node_id») ≡ o → leadsTo p n e ≡ e ∷ []

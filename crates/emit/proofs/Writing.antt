@@ -29,9 +29,10 @@ use Rattle.answer.proofs.Fill.{each-append, each-up, written-none}
 use Rattle.rewrite.specs.Counts.{noCount, entry, countIn}
 use Rattle.rewrite.specs.Sources.{originOf, Traced}
 use Rattle.rewrite.specs.declared.Origin.{Origin}
-use Rattle.emit.specs.Emit.{orNil, leadsTo, becomes, fan, Live, Ready, EmitsAll}
+use Rattle.emit.specs.Emit.{orNil, leadsTo, becomes, fan, Live, Shared, Ready, Prepared}
 use Rattle.emit.proofs.Fanning.{wires-size, fan-size}
-use Rattle.emit.proofs.Nets.{entry-zero, entry-some}
+use Rattle.emit.proofs.Stack.{leaf}
+use Rattle.emit.proofs.Nets.{entry-zero, entry-some, net}
 
 -- ---- one wire
 
@@ -87,7 +88,7 @@ by-number f ws (suc k) l =
     ∙ (sym (each-append f (take k ws) (getD ws k noWire ∷ []))
     ∙ ap (each f) (sym (take-suc ws k noWire (omega arith)))))
 
-module _ {ws : List Wire} {n : ℕ} {actions details sources counts first next : List ℕ} (R : Ready ws n actions details sources counts first next) where
+module _ {ws : List Wire} {n : ℕ} {actions details sources counts first next : List ℕ} (R : Prepared ws n actions details sources counts first next) where
   abbrev p : Map PlanAction
   p = shapeOf ws actions details
 
@@ -120,7 +121,7 @@ count-is c xs e l = go (ltb c noCount) e
 
 -- ---- what the code finds of wire i
 
-module _ {ws : List Wire} {n : ℕ} {actions details sources counts first next : List ℕ} (R : Ready ws n actions details sources counts first next) (i : ℕ) (within : i < length ws) where
+module _ {ws : List Wire} {n : ℕ} {actions details sources counts first next : List ℕ} (R : Prepared ws n actions details sources counts first next) (i : ℕ) (within : i < length ws) where
   abbrev q : Map PlanAction
   q = shapeOf ws actions details
 
@@ -131,7 +132,7 @@ module _ {ws : List Wire} {n : ℕ} {actions details sources counts first next :
   by = becomes-by q n w (wire-ends R i within)
 
   counted : (c : ℕ) → c ≡ countIn actions counts (w .target) → (xs : List PortRef) → reach q n (w .target) ≡ some xs → entry c ≡ cappedLength (some xs)
-  counted c e xs r = ap entry e ∙ (R .rewritable .targets .right (w .target) ∙ ap cappedLength r)
+  counted c e xs r = ap entry e ∙ (R .targets .right (w .target) ∙ ap cappedLength r)
 
   -- a count of 0: nothing
   pub zero-becomes : (c : ℕ) → c ≡ countIn actions counts (w .target) → c ≡ 0 → becomes q n w ≡ []
@@ -205,28 +206,56 @@ module _ {ws : List Wire} {n : ℕ} {actions details sources counts first next :
           let u : t ≡ s = ap end (sym (ap originOf f) ∙ o) in
           record { live = l; many = m; few = omega (arith, m, few); is = b ∙ ap (λ (x : PortRef). fan x (leadsTo q n (w .target))) u; room = omega (arith, k, m) }
 
+  -- an unplanned target: the wire stays, from where its source comes to
+  module _ (kept : getD actions (w .target .«node_id») 0 ≡ 0) where
+    one : 1 ≡ countIn actions counts (w .target)
+    unfolding countIn
+    one = rw kept refl
+
+    pub kept-cycles : {X : Type 0} → originOf (follow q n (w .source)) ≡ Origin.Cycles → X
+    kept-cycles o = origin-cycles 1 one (λ z. omega arith) o
+
+    pub kept-from : (s : PortRef) → originOf (follow q n (w .source)) ≡ Origin.From s → becomes q n w ≡ record { source = s; target = w .target } ∷ []
+    unfolding fan
+    kept-from s o =
+        let F = origin-from 1 one (λ z. omega arith) s o in
+        F .is ∙ ap (fan s) (leaf ws n actions details first next (R .net) n (w .target) (λ z. omega arith) (F .live .ends) (F .live .some-target))
+
+pub written-one : {zs : List Wire} {v : Wire} {out out′ : List ℕ} {at past : ℕ} → zs ≡ v ∷ [] → Written (wireBytes v) out out′ at past → Written (each wireBytes zs) out out′ at past
+unfolding each
+written-one {zs} {v} {out} {out′} {at} {past} e h = subst (λ (l : List ℕ). Written l out out′ at past) (sym (ap (each wireBytes) e ∙ append-nil (wireBytes v))) h
+
 pub written-nothing : {zs : List Wire} {out : List ℕ} {at : ℕ} → zs ≡ [] → at ≤ length out → Written (each wireBytes zs) out out at at
 unfolding each
 written-nothing {zs} {out} {at} e l = rw e (written-none out at l)
 
 -- ---- all wires of a run of records
 
-module _ (r : List ℕ) {n : ℕ} {actions details sources counts first next : List ℕ} {at size : ℕ} (E : EmitsAll (wiresOf r) n actions details sources counts first next at size) where
+module _ (r : List ℕ) {n : ℕ} {actions details sources counts first next : List ℕ} (R : Prepared (wiresOf r) n actions details sources counts first next) where
   same : each (λ i. each wireBytes (becomes (shapeOf (wiresOf r) actions details) n (getD (wiresOf r) i noWire))) (upTo (length r / 7)) ≡ each wireBytes (orNil (rewriteWires (shapeOf (wiresOf r) actions details) n (wiresOf r)))
-  same = ap (λ (k : ℕ). each (λ i. each wireBytes (becomes (shapeOf (wiresOf r) actions details) n (getD (wiresOf r) i noWire))) (upTo k)) (sym (wires-length r)) ∙ all-bytes (E .ready)
+  same = ap (λ (k : ℕ). each (λ i. each wireBytes (becomes (shapeOf (wiresOf r) actions details) n (getD (wiresOf r) i noWire))) (upTo k)) (sym (wires-length r)) ∙ all-bytes R
 
-  pub whole-room : at + length (each (λ i. each wireBytes (becomes (shapeOf (wiresOf r) actions details) n (getD (wiresOf r) i noWire))) (upTo (length r / 7))) ≤ size
-  whole-room = rw same (omega (arith, E .room, wires-size (orNil (rewriteWires (shapeOf (wiresOf r) actions details) n (wiresOf r)))))
+  pub whole-room : (at size : ℕ) → at + 7 * length (orNil (rewriteWires (shapeOf (wiresOf r) actions details) n (wiresOf r))) ≤ size → at + length (each (λ i. each wireBytes (becomes (shapeOf (wiresOf r) actions details) n (getD (wiresOf r) i noWire))) (upTo (length r / 7))) ≤ size
+  whole-room at size h = rw same (omega (arith, h, wires-size (orNil (rewriteWires (shapeOf (wiresOf r) actions details) n (wiresOf r)))))
 
-  pub whole-written : {before after : List ℕ} {past : ℕ} → Written (each (λ i. each wireBytes (becomes (shapeOf (wiresOf r) actions details) n (getD (wiresOf r) i noWire))) (upTo (length r / 7))) before after at past
+  pub whole-written : {before after : List ℕ} {at past : ℕ} → Written (each (λ i. each wireBytes (becomes (shapeOf (wiresOf r) actions details) n (getD (wiresOf r) i noWire))) (upTo (length r / 7))) before after at past
       → Written (each wireBytes (orNil (rewriteWires (shapeOf (wiresOf r) actions details) n (wiresOf r)))) before after at past
   whole-written w = rw same at w
 
 -- what `origin` reads
-pub traced : {ws : List Wire} {n : ℕ} {actions details sources counts first next : List ℕ} → Ready ws n actions details sources counts first next → Traced ws actions sources
+pub traced : {ws : List Wire} {n : ℕ} {actions details sources counts first next : List ℕ} → Prepared ws n actions details sources counts first next → Traced ws actions sources
 traced R =
     record {
-      long = R .rewritable .origins .long;
-      low = λ i l. omega (arith, R .bounded .named i l .source, R .bounded .few-nodes);
-      inside = R .rewritable .origins .inside;
+      long = R .origins .long;
+      low = λ i l. omega (arith, R .net .bounded .named i l .source, R .net .bounded .few-nodes);
+      inside = R .origins .inside;
     }
+
+-- ---- from what `rewrite` leaves
+
+pub prepared : {ws : List Wire} {n : ℕ} {actions details sources counts first next : List ℕ} → Ready ws n actions details sources counts first next → Prepared ws n actions details sources counts first next
+prepared R = record { net = net _ _ _ _ _ _ _ _ (R .bounded) (R .shaped) (R .rewritable); origins = R .rewritable .origins; targets = R .rewritable .targets; ends = R .ends; few = R .few }
+
+-- with the chains that the Branches share
+pub prepared-shared : {ws : List Wire} {n : ℕ} {actions details sources counts first first′ next : List ℕ} → Prepared ws n actions details sources counts first next → Shared ws actions next first first′ → Prepared ws n actions details sources counts first′ next
+prepared-shared {n = n} {details = details} R S = record { net = S .serves n details (R .net); origins = R .origins; targets = R .targets; ends = R .ends; few = R .few }

@@ -14,6 +14,9 @@ use Rattle.model.specs.Maps.{Map, All}
 use Rattle.model.specs.Offer.{PlanAction}
 use Rattle.model.specs.Rewrite.{collect, reach, rewriteWire, rewriteWires}
 use Rattle.state.specs.Planned.{shapeOf, Shaped}
+use Rattle.rewrite.specs.Sources.{Sources}
+use Rattle.rewrite.specs.Counts as target-counts
+use Rattle.rewrite.specs.Linked.{Within}
 use Rattle.rewrite.specs.Rewritable.{Rewritable}
 
 abbrev pub orNil : {A : Type 0} → Option (List A) → List A
@@ -54,6 +57,19 @@ pub record Net (ws : List Wire) (n : ℕ) (actions details first next : List ℕ
   pub shaped : Shaped ws n actions details
   pub next-long : length next ≡ maxWires
   pub expands : (b : ℕ) → getD actions b 0 ≡ 3 → 0 < length (leadsTo (shapeOf ws actions details) n (execOf b)) → Expands (shapeOf ws actions details) n ws next b (getD first b 0)
+
+-- ---- chains that Branches share
+
+-- the chains of planned Branches start at wires between nodes
+pub record Starts (ws : List Wire) (actions first : List ℕ) : Type 0 where
+  pub within : Within ws
+  pub long : length first ≡ maxNodes
+  pub inside : (b : ℕ) → getD actions b 0 ≡ 3 → getD first b 0 ≤ length ws
+
+-- after the sharing the chains serve any plan that they served before
+pub record Shared (ws : List Wire) (actions next first first′ : List ℕ) : Type 0 where
+  pub starts : Starts ws actions first′
+  pub serves : (n : ℕ) (details : List ℕ) → Net ws n actions details first next → Net ws n actions details first′ next
 
 -- ---- the stack: codes of chains, the next to be walked on top
 
@@ -133,15 +149,28 @@ pub record Ready (ws : List Wire) (n : ℕ) (actions details sources counts firs
   pub ends : rewriteWires (shapeOf ws actions details) n ws ≡ some (orNil (rewriteWires (shapeOf ws actions details) n ws))
   pub few : length (orNil (rewriteWires (shapeOf ws actions details) n ws)) ≤ maxWires
 
+-- the same with the chains that the emission walks
+pub record Prepared (ws : List Wire) (n : ℕ) (actions details sources counts first next : List ℕ) : Type 0 where
+  pub net : Net ws n actions details first next
+  pub origins : Sources ws n actions details sources
+  pub targets : target-counts.Counts ws n actions details counts
+  pub ends : rewriteWires (shapeOf ws actions details) n ws ≡ some (orNil (rewriteWires (shapeOf ws actions details) n ws))
+  pub few : length (orNil (rewriteWires (shapeOf ws actions details) n ws)) ≤ maxWires
+
 -- what the writing of wire i needs
 pub record Emits (ws : List Wire) (n : ℕ) (actions sources counts first next stack : List ℕ) (i at size : ℕ) : Type 0 where
   pub details : List ℕ
-  pub ready : Ready ws n actions details sources counts first next
+  pub prepared : Prepared ws n actions details sources counts first next
   pub within : i < length ws
   pub stack-long : length stack ≡ maxWires
   pub room : at + 7 * length (becomes (shapeOf ws actions details) n (getD ws i noWire)) ≤ size
 
 -- what the writing of all wires needs
+pub record EmitsEach (ws : List Wire) (n : ℕ) (actions details sources counts first next : List ℕ) (at size : ℕ) : Type 0 where
+  pub prepared : Prepared ws n actions details sources counts first next
+  pub room : at + 7 * length (orNil (rewriteWires (shapeOf ws actions details) n ws)) ≤ size
+
+-- the same with the chains that `rewrite` left
 pub record EmitsAll (ws : List Wire) (n : ℕ) (actions details sources counts first next : List ℕ) (at size : ℕ) : Type 0 where
   pub ready : Ready ws n actions details sources counts first next
   pub room : at + 7 * length (orNil (rewriteWires (shapeOf ws actions details) n ws)) ≤ size

@@ -7,6 +7,7 @@ use records::access;
 use rewrite::Origin;
 use rewrite::counts;
 use rewrite::sources as origins;
+use state::KEPT;
 ghost use mathlib.Core.Path.{_≡_};
 ghost use mathlib.Core.List.{List};
 ghost use Prim.Native.Nat.{ℕ, _+_, _-_, _*_, _≤_, _<_};
@@ -17,8 +18,10 @@ ghost use Rattle.records.specs.Access.{wiresOf};
 ghost use Rattle.model.specs.Answer.{each};
 ghost use Rattle.encoding.specs.Wires.{wireBytes};
 ghost use Rattle.state.specs.Planned.{shapeOf};
-ghost use Rattle.emit.specs.Emit.{leadsTo, fan, Net, Standing, Descended, Pushed, Popable, Popped, Descends, Counts, Fans, orNil, becomes, Ready, Emits, EmitsAll};
+ghost use Rattle.emit.specs.Emit.{leadsTo, fan, Net, Standing, Descended, Pushed, Popable, Popped, Descends, Counts, Fans, orNil, becomes, Prepared, Emits, EmitsEach, EmitsAll};
 ghost use Rattle.model.specs.Rewrite.{rewriteWires};
+
+pub mod sharing;
 
 fn wide(x: u16) -> usize
     ensures { λ r. ⌜ (r ≡ x) × (r < 65536) ⌝ }
@@ -128,8 +131,8 @@ fn write_targets(
     past
 }
 
-// Writes the wires that wire i becomes.
-fn write_wire(
+// Writes the wires that wire i, into a planned node, becomes.
+fn write_planned(
     wires: &[u8],
     nodes: usize,
     actions: &[u8; limit::NODES],
@@ -143,7 +146,7 @@ fn write_wire(
     at: usize,
 ) -> usize
     requires { ⌜ Emits (wiresOf (now wires)) nodes (now actions) (now sources) (now counts) (now first) (now next) (now stack) i at (length (now out)) ⌝ }
-    ensures { λ r. ⌜ (length (now (stack .exit)) ≡ maxWires) × ((details : List ℕ) → Ready (wiresOf (now (wires .entry))) nodes (now (actions .entry)) details (now (sources .entry)) (now (counts .entry)) (now (first .entry)) (now (next .entry)) → Written (each wireBytes (becomes (shapeOf (wiresOf (now (wires .entry))) (now (actions .entry)) details) nodes (getD (wiresOf (now (wires .entry))) i noWire))) (now (out .entry)) (now (out .exit)) at r) ⌝ }
+    ensures { λ r. ⌜ (length (now (stack .exit)) ≡ maxWires) × ((details : List ℕ) → Prepared (wiresOf (now (wires .entry))) nodes (now (actions .entry)) details (now (sources .entry)) (now (counts .entry)) (now (first .entry)) (now (next .entry)) → Written (each wireBytes (becomes (shapeOf (wiresOf (now (wires .entry))) (now (actions .entry)) details) nodes (getD (wiresOf (now (wires .entry))) i noWire))) (now (out .entry)) (now (out .exit)) at r) ⌝ }
 {
     let wire = access::wire(wires, i);
     let count = wide(counts::count_at(actions, counts, wire.target.node_id, wire.target.port));
@@ -175,8 +178,46 @@ fn write_wire(
     }
 }
 
-// Writes the rewritten wires.
-pub fn write_wires(
+// Writes the wires that wire i becomes.
+fn write_wire(
+    wires: &[u8],
+    nodes: usize,
+    actions: &[u8; limit::NODES],
+    sources: &[u16; limit::NODES],
+    counts: &[u16; limit::NODES],
+    first: &[u16; limit::NODES],
+    next: &[u16; limit::WIRES],
+    stack: &mut [u16; limit::WIRES],
+    i: usize,
+    out: &mut [u8],
+    at: usize,
+) -> usize
+    requires { ⌜ Emits (wiresOf (now wires)) nodes (now actions) (now sources) (now counts) (now first) (now next) (now stack) i at (length (now out)) ⌝ }
+    ensures { λ r. ⌜ (length (now (stack .exit)) ≡ maxWires) × ((details : List ℕ) → Prepared (wiresOf (now (wires .entry))) nodes (now (actions .entry)) details (now (sources .entry)) (now (counts .entry)) (now (first .entry)) (now (next .entry)) → Written (each wireBytes (becomes (shapeOf (wiresOf (now (wires .entry))) (now (actions .entry)) details) nodes (getD (wiresOf (now (wires .entry))) i noWire))) (now (out .entry)) (now (out .exit)) at r) ⌝ }
+{
+    let wire = access::wire(wires, i);
+    let target = wire.target;
+    let node = target.node_id;
+    if actions[node] != KEPT {
+        return write_planned(
+            wires, nodes, actions, sources, counts, first, next, stack, i, out, at,
+        );
+    }
+    match origins::origin(
+        wires,
+        actions,
+        sources,
+        wire.source.node_id,
+        wire.source.port,
+    ) {
+        Origin::Cycles => at,
+        Origin::Drops => at,
+        Origin::From(source) => wire_records::write_wire(out, at, Wire { source, target }),
+    }
+}
+
+// Writes the rewritten wires by chains that Branches may share.
+fn write_all(
     wires: &[u8],
     nodes: usize,
     actions: &[u8; limit::NODES],
@@ -188,7 +229,7 @@ pub fn write_wires(
     out: &mut [u8],
     at: usize,
 ) -> usize
-    requires { ⌜ EmitsAll (wiresOf (now wires)) nodes (now actions) (now details) (now sources) (now counts) (now first) (now next) at (length (now out)) ⌝ }
+    requires { ⌜ EmitsEach (wiresOf (now wires)) nodes (now actions) (now details) (now sources) (now counts) (now first) (now next) at (length (now out)) ⌝ }
     ensures { λ r. ⌜ Written (each wireBytes (orNil (rewriteWires (shapeOf (wiresOf (now (wires .entry))) (now (actions .entry)) (now (details .entry))) nodes (wiresOf (now (wires .entry)))))) (now (out .entry)) (now (out .exit)) at r ⌝ }
 {
     let mut stack = [0u16; limit::WIRES];
@@ -212,4 +253,27 @@ pub fn write_wires(
         i += 1;
     }
     past
+}
+
+// Writes the rewritten wires.
+pub fn write_wires(
+    wires: &[u8],
+    nodes: usize,
+    actions: &[u8; limit::NODES],
+    details: &[u16; limit::NODES],
+    sources: &[u16; limit::NODES],
+    counts: &[u16; limit::NODES],
+    first: &[u16; limit::NODES],
+    next: &[u16; limit::WIRES],
+    out: &mut [u8],
+    at: usize,
+) -> usize
+    requires { ⌜ EmitsAll (wiresOf (now wires)) nodes (now actions) (now details) (now sources) (now counts) (now first) (now next) at (length (now out)) ⌝ }
+    ensures { λ r. ⌜ Written (each wireBytes (orNil (rewriteWires (shapeOf (wiresOf (now (wires .entry))) (now (actions .entry)) (now (details .entry))) nodes (wiresOf (now (wires .entry)))))) (now (out .entry)) (now (out .exit)) at r ⌝ }
+{
+    let mut chains = *first;
+    sharing::share_chains(wires, nodes, actions, &mut chains, next);
+    write_all(
+        wires, nodes, actions, details, sources, counts, &chains, next, out, at,
+    )
 }

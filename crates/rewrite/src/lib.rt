@@ -48,7 +48,7 @@ fn widen(x: u8) -> u16
 }
 
 // Whether this is planned of some node.
-fn has_action(actions: &[u8; limit::NODES], nodes: usize, action: u8) -> bool
+pub fn has_action(actions: &[u8; limit::NODES], nodes: usize, action: u8) -> bool
     requires { ⌜ nodes ≤ maxNodes ⌝ }
     ensures { λ r. ⌜ (r ≡ false → (m : ℕ) → m < nodes → getD (now (actions .entry)) m 0 ≡ action → ⊥) ⌝ }
 {

@@ -1,50 +1,43 @@
 -- `emit::write_wire` meets its contract.
-use mathlib.Core.Path.{_≡_, refl, sym, ap, ap₂, _∙_, subst}
-use mathlib.Core.List.{List, []}
+use mathlib.Core.Path.{_≡_, refl, sym, ap, _∙_}
+use mathlib.Core.List.{List}
 use Prim.Native.Nat.{ℕ, _+_, _*_, _≤_, _<_}
 use native.Mathlib.Omega.{arith}
 use lib.ListN.{length, getD}
 use borrow.Author.Needs.{needs}
 use denote.Ref.{now}
 use Rattle.ir.specs.declared.Wire.{Wire}
-use Rattle.encoding.specs.Numbers.{Written}
-use Rattle.encoding.specs.Wires.{wireBytes}
 use Rattle.records.specs.Access.{wiresOf, noWire}
-use Rattle.model.specs.Answer.{each}
 use Rattle.model.specs.Rewrite.{follow}
 use Rattle.state.specs.Planned.{shapeOf}
-use Rattle.rewrite.specs.Counts.{countIn}
 use Rattle.rewrite.specs.Sources.{originOf}
-use Rattle.answer.proofs.Fill.{written-none}
-use Rattle.emit.specs.Emit.{Ready, becomes}
-use Rattle.emit.proofs.Nets.{net}
-use Rattle.emit.proofs.Writing.{zero-becomes, origin-cycles, origin-drops, Fanned, origin-from, written-nothing, traced}
+use Rattle.emit.specs.Emit.{Prepared}
+use Rattle.emit.proofs.Writing.{origin-drops, kept-cycles, kept-from, written-one, written-nothing, traced}
 use Rattle.emit.proofs.write_wire.Statement.{statement}
 use Rattle.emit.proofs.write_wire.Tie as tie
 
 wire-requires : tie.Need-wire-requires
 wire-requires c κs = c .before .before .pre .within
 
-count-at-requires : tie.Need-count-at-requires
-count-at-requires c κs =
-    let P = c .before .before .before .pre in
-    omega (arith, ap (λ (w : Wire). w .target .«node_id») (c .wire .ensures), P .ready .bounded .named (c .before .before .before .args .i) (P .within) .target, P .ready .bounded .few-nodes)
+element-copy-out-if1 : tie.Need-element-copy-out-if1
+element-copy-out-if1 c =
+    let P = c .before .before .before .before .pre in
+    omega (arith, ap (λ (w : Wire). w .target .«node_id») (c .before .wire .ensures), P .prepared .net .bounded .named (c .before .before .before .before .args .i) (P .within) .target, P .prepared .net .bounded .few-nodes)
 
-wide-requires : tie.Need-wide-requires
-wide-requires c κs = search needs
+write-planned-requires : tie.Need-write-planned-requires
+write-planned-requires c κs = c .before .before .before .before .before .before .before .before .pre
 
--- the count, as it is defined
-count-is : (c : tie.After-wide) → c .wide .result ≡ countIn (now (c .before .before .before .before .before .args .actions)) (now (c .before .before .before .before .before .args .counts)) (getD (wiresOf (now (c .before .before .before .before .before .args .wires))) (c .before .before .before .before .before .args .i) noWire .target)
-count-is c = c .wide .ensures .0 ∙ (c .before .count-at .ensures ∙ ap (λ (w : Wire). countIn (now (c .before .before .before .before .before .args .actions)) (now (c .before .before .before .before .before .args .counts)) (w .target)) (c .before .before .wire .ensures))
+same-length : tie.Need-same-length
+same-length c = search needs
 
 returns : tie.Need-returns
-returns c = (c .before .before .before .before .before .before .pre .stack-long, λ details R. written-nothing (zero-becomes R (c .before .before .before .before .before .before .args .i) (c .before .before .before .before .before .before .pre .within) _ (count-is (c .before)) (c .if1 .taken)) (omega (arith, c .before .before .before .before .before .before .pre .room)))
+returns c = c .before .before .write-planned .ensures
 
 origin-requires : tie.Need-origin-requires
 origin-requires c κs =
     let P = c .before .before .before .before .before .before .pre in (
-      traced (P .ready),
-      omega (arith, ap (λ (w : Wire). w .source .«node_id») (c .before .before .before .wire .ensures), P .ready .bounded .named (c .before .before .before .before .before .before .args .i) (P .within) .source, P .ready .bounded .few-nodes),
+      traced (P .prepared),
+      omega (arith, ap (λ (w : Wire). w .source .«node_id») (c .before .before .before .wire .ensures), P .prepared .net .bounded .named (c .before .before .before .before .before .before .args .i) (P .within) .source, P .prepared .net .bounded .few-nodes),
     )
 
 enum-told : tie.Need-enum-told
@@ -57,34 +50,22 @@ enum-known-source : tie.Need-enum-known-source
 enum-known-source c = search needs
 
 -- where the source comes to, as it is defined
-origin-is : (c : tie.After-origin) (details : List ℕ) → Ready (wiresOf (now (c .before .before .before .before .before .before .before .args .wires))) (c .before .before .before .before .before .before .before .args .nodes) (now (c .before .before .before .before .before .before .before .args .actions)) details (now (c .before .before .before .before .before .before .before .args .sources)) (now (c .before .before .before .before .before .before .before .args .counts)) (now (c .before .before .before .before .before .before .before .args .first)) (now (c .before .before .before .before .before .before .before .args .next))
-    → originOf (follow (shapeOf (wiresOf (now (c .before .before .before .before .before .before .before .args .wires))) (now (c .before .before .before .before .before .before .before .args .actions)) details) (c .before .before .before .before .before .before .before .args .nodes) (getD (wiresOf (now (c .before .before .before .before .before .before .before .args .wires))) (c .before .before .before .before .before .before .before .args .i) noWire .source)) ≡ c .origin .result
+origin-is : (c : tie.After-origin) (details : List ℕ) → Prepared (wiresOf (now (c .before .before .before .before .before .before .before .args .wires))) (c .before .before .before .before .before .before .before .args .nodes) (now (c .before .before .before .before .before .before .before .args .actions)) details (now (c .before .before .before .before .before .before .before .args .sources)) (now (c .before .before .before .before .before .before .before .args .counts)) (now (c .before .before .before .before .before .before .before .args .first)) (now (c .before .before .before .before .before .before .before .args .next)) → originOf (follow (shapeOf (wiresOf (now (c .before .before .before .before .before .before .before .args .wires))) (now (c .before .before .before .before .before .before .before .args .actions)) details) (c .before .before .before .before .before .before .before .args .nodes) (getD (wiresOf (now (c .before .before .before .before .before .before .before .args .wires))) (c .before .before .before .before .before .before .before .args .i) noWire .source)) ≡ c .origin .result
 origin-is c details R =
-    sym (c .origin .ensures (c .before .before .before .before .before .before .before .args .nodes) details (R .shaped) (R .rewritable .origins)
+    sym (c .origin .ensures (c .before .before .before .before .before .before .before .args .nodes) details (R .net .shaped) (R .origins)
     ∙ ap (λ (w : Wire). originOf (follow (shapeOf (wiresOf (now (c .before .before .before .before .before .before .before .args .wires))) (now (c .before .before .before .before .before .before .before .args .actions)) details) (c .before .before .before .before .before .before .before .args .nodes) (w .source))) (c .before .before .before .before .wire .ensures))
 
-fanned : (c : tie.After-write-targets-arg2) (details : List ℕ) (R : Ready (wiresOf (now (c .before .before .before .before .before .before .before .before .before .before .before .before .args .wires))) (c .before .before .before .before .before .before .before .before .before .before .before .before .args .nodes) (now (c .before .before .before .before .before .before .before .before .before .before .before .before .args .actions)) details (now (c .before .before .before .before .before .before .before .before .before .before .before .before .args .sources)) (now (c .before .before .before .before .before .before .before .before .before .before .before .before .args .counts)) (now (c .before .before .before .before .before .before .before .before .before .before .before .before .args .first)) (now (c .before .before .before .before .before .before .before .before .before .before .before .before .args .next)))
-    → Fanned R (c .before .before .before .before .before .before .before .before .before .before .before .before .args .i) (c .before .before .before .before .before .before .before .before .before .before .before .before .pre .within) (c .before .before .before .before .before .before .before .wide .result) (c .before .before .before .source .given .0 .0)
-fanned c details R = origin-from R (c .before .before .before .before .before .before .before .before .before .before .before .before .args .i) (c .before .before .before .before .before .before .before .before .before .before .before .before .pre .within) _ (count-is (c .before .before .before .before .before .before .before)) (c .before .before .before .before .before .before .if1 .left) _ (origin-is (c .before .before .before .before .before) details R ∙ c .before .before .before .source .given .1)
+-- the target is not planned
+kept-is : (c : tie.After-origin) → getD (now (c .before .before .before .before .before .before .before .args .actions)) (getD (wiresOf (now (c .before .before .before .before .before .before .before .args .wires))) (c .before .before .before .before .before .before .before .args .i) noWire .target .«node_id») 0 ≡ 0
+kept-is c = ap (λ (w : Wire). getD (now (c .before .before .before .before .before .before .before .args .actions)) (w .target .«node_id») 0) (sym (c .before .before .before .before .wire .ensures)) ∙ c .before .if1 .left
 
-write-targets-requires : tie.Need-write-targets-requires
-write-targets-requires c κs =
-    let P = c .before .before .before .before .before .before .before .before .before .before .before .before .pre in
-    let F = fanned c (P .details) (P .ready) in
-    record {
-      details = P .details;
-      counts = record { net = net _ _ _ _ _ _ _ _ (P .ready .bounded) (P .ready .shaped) (P .ready .rewritable); live = F .live; many = F .many };
-      within = P .within;
-      few = F .few;
-      stack-long = P .stack-long;
-      room = omega (arith, P .room, F .room);
-    }
+write-wire-requires : tie.Need-write-wire-requires
+write-wire-requires c κs =
+    let P = c .before .before .before .before .before .before .before .before .before .before .before .pre in
+    omega (arith, P .room, ap length (kept-from (P .prepared) (c .before .before .before .before .before .before .before .before .before .before .before .args .i) (P .within) (kept-is (c .before .before .before .before)) _ (origin-is (c .before .before .before .before) (P .details) (P .prepared) ∙ c .before .before .source .given .1)))
 
 returns-2 : tie.Need-returns-2
-returns-2 c = (
-  c .before .before .before .before .before .before .before .before .before .pre .stack-long,
-  λ details R. origin-cycles R (c .before .before .before .before .before .before .before .before .before .args .i) (c .before .before .before .before .before .before .before .before .before .pre .within) _ (count-is (c .before .before .before .before)) (c .before .before .before .if1 .left) (origin-is (c .before .before) details R ∙ c .enum-told .given .1),
-)
+returns-2 c = (c .before .before .before .before .before .before .before .before .before .pre .stack-long, λ details R. kept-cycles R (c .before .before .before .before .before .before .before .before .before .args .i) (c .before .before .before .before .before .before .before .before .before .pre .within) (kept-is (c .before .before)) (origin-is (c .before .before) details R ∙ c .enum-told .given .1))
 
 returns-3 : tie.Need-returns-3
 returns-3 c = (
@@ -92,15 +73,14 @@ returns-3 c = (
   λ details R. written-nothing (origin-drops R (c .before .before .before .before .before .before .before .before .before .args .i) (c .before .before .before .before .before .before .before .before .before .pre .within) (origin-is (c .before .before) details R ∙ c .enum-told2 .given .1)) (omega (arith, c .before .before .before .before .before .before .before .before .before .pre .room)),
 )
 
-same-length : tie.Need-same-length
-same-length c = search needs
+same-length-2 : tie.Need-same-length-2
+same-length-2 c = search needs
 
 returns-4 : tie.Need-returns-4
 returns-4 c = (
-  c .before .before .write-targets .ensures .0,
+  c .before .before .before .before .before .before .before .before .before .before .before .before .before .before .pre .stack-long,
   λ details R.
-      let F = fanned (c .before .before .before) details R in
-      rw (F .is) (c .before .before .write-targets .ensures .1 details (record { net = net _ _ _ _ _ _ _ _ (R .bounded) (R .shaped) (R .rewritable); live = F .live; many = F .many })),
+      written-one (kept-from R (c .before .before .before .before .before .before .before .before .before .before .before .before .before .before .args .i) (c .before .before .before .before .before .before .before .before .before .before .before .before .before .before .pre .within) (kept-is (c .before .before .before .before .before .before .before)) _ (origin-is (c .before .before .before .before .before .before .before) details R ∙ c .before .before .before .before .before .source .given .1)) (rw (c .before .before .before .before .before .before .before .before .before .before .before .wire .ensures) at (c .before .before .write-wire .ensures)),
 )
 
 pub write-wire-spec : {M : Type 1} → statement M
@@ -108,15 +88,16 @@ write-wire-spec =
     tie.close
     (tie.spec
     wire-requires
-    count-at-requires
-    wide-requires
+    element-copy-out-if1
+    write-planned-requires
+    same-length
     returns
     origin-requires
     enum-told
     enum-told-2
     enum-known-source
-    write-targets-requires
+    write-wire-requires
     returns-2
     returns-3
-    same-length
+    same-length-2
     returns-4)

@@ -1,0 +1,49 @@
+-- `emit::sharing::share_chains` meets its contract.
+use Prim.Native.Nat.{_-_, _<_}
+use native.Mathlib.Omega.{arith}
+use Rattle.records.specs.Access.{wiresOf}
+use Rattle.emit.specs.Emit.{Shared}
+use Rattle.emit.proofs.SharedChains.{shared-same, shared-more}
+use Rattle.emit.proofs.sharing.share_chains.Statement.{statement}
+use Rattle.emit.proofs.sharing.share_chains.Tie as tie
+
+abbrev Inv-loop : tie.InvT-loop
+Inv-loop wires nodes actions first₀ next far₀ first far = (0 < far) × Shared (wiresOf wires) actions next first₀ first
+
+abbrev μ-loop : tie.MeasureT-loop
+μ-loop wires nodes actions first₀ next far₀ first far = nodes - far
+
+has-action-requires : tie.Need-has-action-requires Inv-loop μ-loop
+has-action-requires c κs = c .before .pre .1
+
+returns : tie.Need-returns Inv-loop μ-loop
+returns c = shared-same (c .before .before .before .pre .0)
+
+loop-holds : tie.Need-loop-holds Inv-loop μ-loop
+loop-holds c = (omega arith, shared-same (c .before .before .before .pre .0))
+
+share-all-requires : tie.Need-share-all-requires Inv-loop μ-loop
+share-all-requires c κs = (c .before .before .loop .inv .1 .starts, omega (arith, c .before .before .before .before .before .before .pre .1), c .before .before .loop .inv .0, c .before .loop-test .taken)
+
+loop-less : tie.Need-loop-less Inv-loop μ-loop
+loop-less c = omega (arith, c .share-all .ensures .1)
+
+loop-again : tie.Need-loop-again Inv-loop μ-loop
+loop-again c = (omega (arith, c .share-all .ensures .1), shared-more (c .before .before .before .loop .inv .1) (c .share-all .ensures .0))
+
+returns-2 : tie.Need-returns-2 Inv-loop μ-loop
+returns-2 c = c .before .loop .inv .1
+
+pub share-chains-spec : {M : Type 1} → statement M
+share-chains-spec =
+    tie.close
+    (tie.spec
+    Inv-loop
+    μ-loop
+    has-action-requires
+    returns
+    loop-holds
+    share-all-requires
+    loop-less
+    loop-again
+    returns-2)
