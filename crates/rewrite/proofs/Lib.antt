@@ -11,3 +11,4 @@ pub mod Steps
 pub mod Counting
 pub mod Visits
 pub mod Tallying
+pub mod KeptTargets

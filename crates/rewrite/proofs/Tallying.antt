@@ -207,3 +207,8 @@ module _ (ws : List Wire) (actions sources counts : List ℕ) where
 
   pub scan-end : (i count : ℕ) → length ws ≤ i → Scanning ws actions sources counts i count → (n : ℕ) (details : List ℕ) → Filled ws n actions details sources counts → Counted (shapeOf ws actions details) n ws count
   scan-end i count h s n details p = passed-end (shapeOf ws actions details) n ws i count (omega (arith, s .within)) (s .low) (s .passed n details p)
+
+-- a sum is capped at its end
+pub cap-later : (count weight : ℕ) → cap (count + weight) ≡ cap (cap count + weight)
+unfolding cap
+cap-later count weight = omega arith

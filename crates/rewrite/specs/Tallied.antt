@@ -1,8 +1,10 @@
 -- What each case of `Rewriting` says of the wires.
-use Prim.Native.Nat.{ℕ, _≤_}
+use Prim.Native.Nat.{ℕ, _+_, _≤_}
 use mathlib.Core.Path.{_≡_}
+use mathlib.Core.Bool.{cond}
 use mathlib.Core.Option.{Option, none, some}
-use mathlib.Core.List.{List}
+use mathlib.Core.List.{List, [], _∷_}
+use lib.Dec.{eqb}
 use lib.ListN.{length, getD}
 use Rattle.ir.specs.declared.Wire.{Wire}
 use Rattle.records.specs.Access.{noWire}
@@ -34,6 +36,11 @@ pub record Counted (p : Map PlanAction) (n : ℕ) (ws : List Wire) (count : ℕ)
 abbrev pub Tallied : Map PlanAction → ℕ → List Wire → Rewriting → Type 0
 Tallied p n ws (Endless index) = Stuck p n ws index
 Tallied p n ws (Wires count) = Counted p n ws count
+
+-- how many of the wires enter nodes that stay
+unfoldable pub keptCount : List ℕ → List Wire → ℕ
+keptCount actions [] = 0
+keptCount actions (w ∷ ws) = cond (eqb (getD actions (w .target .«node_id») 0) 0) 1 0 + keptCount actions ws
 
 -- ---- one wire
 

@@ -78,5 +78,5 @@ pub fn rewrite(
 {
     sources::fill(wires, nodes, actions, details, sources);
     counts::fill(wires, nodes, actions, details, counts, first, next);
-    tally::scan(wires, actions, sources, counts)
+    tally::scan(wires, nodes, actions, sources, counts)
 }

@@ -1,60 +1,45 @@
 -- `rewrite::tally::scan` meets its contract.
-use Prim.Native.Nat.{_-_}
 use native.Mathlib.Omega.{arith}
 use borrow.Author.Needs.{needs}
 use Rattle.records.specs.Access.{wiresOf}
-use Rattle.records.proofs.Runs.{wires-length}
-use Rattle.rewrite.proofs.Tallying.{Scanning, scan-start, scan-stuck, scan-next, scan-end}
+use Rattle.rewrite.proofs.KeptTargets.{kept-few, kept-counted}
 use Rattle.rewrite.proofs.tally.scan.Statement.{statement}
 use Rattle.rewrite.proofs.tally.scan.Tie as tie
 
-abbrev Inv-loop : tie.InvT-loop
-Inv-loop wires actions sources counts wire-count count₀ i₀ count i =
-    Scanning (wiresOf wires) actions sources counts i count
+has-action-requires : tie.Need-has-action-requires
+has-action-requires c κs = search needs
 
-abbrev μ-loop : tie.MeasureT-loop
-μ-loop wires actions sources counts wire-count count₀ i₀ count i =
-    wire-count - i
+weigh-all-requires : tie.Need-weigh-all-requires
+weigh-all-requires c κs = search needs
 
-loop-holds : tie.Need-loop-holds Inv-loop μ-loop
-loop-holds c = scan-start _ _ _ _
+returns : tie.Need-returns
+returns c = c .weigh-all .ensures _
 
-weigh-requires : tie.Need-weigh-requires Inv-loop μ-loop
-weigh-requires c κs = (c .before .before .before .pre, omega (arith, wires-length (c .before .before .before .args .wires .now)))
+has-action-requires-2 : tie.Need-has-action-requires-2
+has-action-requires-2 c κs = search needs
 
-returns : tie.Need-returns Inv-loop μ-loop
-returns c = scan-stuck _ _ _ _ _ _ _ (omega (arith, wires-length (c .before .before .before .before .before .args .wires .now))) (c .before .before .before .loop .inv) (c .before .weigh .ensures) (c .if1 .taken)
+weigh-all-requires-2 : tie.Need-weigh-all-requires-2
+weigh-all-requires-2 c κs = search needs
 
-plus-requires : tie.Need-plus-requires Inv-loop μ-loop
-plus-requires c κs = (c .before .before .before .loop .inv .low, omega (arith, c .if1 .left, c .before .weigh .ensures .low))
+returns-2 : tie.Need-returns-2
+returns-2 c = c .weigh-all2 .ensures _
 
-add-i : tie.Need-add-i Inv-loop μ-loop
-add-i c = omega (arith, wires-length (c .before .before .before .before .before .before .args .wires .now), c .before .before .before .before .before .before .pre .within .few)
+count-kept-requires : tie.Need-count-kept-requires
+count-kept-requires c κs = search needs
 
-loop-less : tie.Need-loop-less Inv-loop μ-loop
-loop-less c = omega arith
-
-loop-again : tie.Need-loop-again Inv-loop μ-loop
-loop-again c = scan-next _ _ _ _ _ _ _ (omega (arith, wires-length (c .before .before .before .before .before .before .args .wires .now))) (c .before .before .before .before .loop .inv) (c .before .before .weigh .ensures) (c .before .if1 .left) _ (c .plus .ensures)
-
-wide-requires : tie.Need-wide-requires Inv-loop μ-loop
-wide-requires c κs = search needs
-
-returns-2 : tie.Need-returns-2 Inv-loop μ-loop
-returns-2 c = rw (c .wide .ensures .0) (scan-end _ _ _ _ _ _ (omega (arith, wires-length (c .before .before .before .before .args .wires .now))) (c .before .before .loop .inv))
+returns-3 : tie.Need-returns-3
+returns-3 c details F =
+    kept-counted _ _ details _ (F .shaped) (c .before .before .before .before .has-action .ensures (c .before .before .before .if1 .left)) (c .before .before .has-action2 .ensures (c .before .if2 .left)) _ (omega (arith, kept-few (c .before .before .before .before .before .before .args .actions .now) (wiresOf (c .before .before .before .before .before .before .args .wires .now)), c .before .before .before .before .before .before .pre .0 .within .few)) _ (c .count-kept .ensures)
 
 pub scan-spec : {M : Type 1} → statement M
 scan-spec =
     tie.close
     (tie.spec
-    Inv-loop
-    μ-loop
-    loop-holds
-    weigh-requires
+    has-action-requires
+    weigh-all-requires
     returns
-    plus-requires
-    add-i
-    loop-less
-    loop-again
-    wide-requires
-    returns-2)
+    has-action-requires-2
+    weigh-all-requires-2
+    returns-2
+    count-kept-requires
+    returns-3)
