@@ -141,6 +141,10 @@ pub record Fans (ws : List Wire) (n : ℕ) (actions first next stack : List ℕ)
 
 -- ---- all wires
 
+-- the wires that there are at the end
+abbrev pub rewritten : List Wire → ℕ → List ℕ → List ℕ → List Wire
+rewritten ws n actions details = orNil (rewriteWires (shapeOf ws actions details) n ws)
+
 -- every wire's rewriting ends, there are few enough wires at the end, and the arrays are those that `rewrite` filled
 pub record Ready (ws : List Wire) (n : ℕ) (actions details sources counts first next : List ℕ) : Type 0 where
   pub bounded : Bounded ws n

@@ -18,7 +18,7 @@ ghost use Rattle.records.specs.Access.{wiresOf};
 ghost use Rattle.model.specs.Answer.{each};
 ghost use Rattle.encoding.specs.Wires.{wireBytes};
 ghost use Rattle.state.specs.Planned.{shapeOf};
-ghost use Rattle.emit.specs.Emit.{leadsTo, fan, Net, Standing, Descended, Pushed, Popable, Popped, Descends, Counts, Fans, orNil, becomes, Prepared, Emits, EmitsEach, EmitsAll};
+ghost use Rattle.emit.specs.Emit.{leadsTo, fan, Net, Standing, Descended, Pushed, Popable, Popped, Descends, Counts, Fans, orNil, becomes, rewritten, Prepared, Emits, EmitsEach, EmitsAll};
 ghost use Rattle.model.specs.Rewrite.{rewriteWires};
 
 pub mod sharing;
@@ -200,7 +200,17 @@ fn write_wire(
     let node = target.node_id;
     if actions[node] != KEPT {
         return write_planned(
-            wires, nodes, actions, sources, counts, first, next, stack, i, out, at,
+            wires,
+            nodes,
+            actions,
+            sources,
+            counts,
+            first,
+            next,
+            stack,
+            i,
+            out,
+            at,
         );
     }
     match origins::origin(
@@ -230,7 +240,7 @@ fn write_all(
     at: usize,
 ) -> usize
     requires { ⌜ EmitsEach (wiresOf (now wires)) nodes (now actions) (now details) (now sources) (now counts) (now first) (now next) at (length (now out)) ⌝ }
-    ensures { λ r. ⌜ Written (each wireBytes (orNil (rewriteWires (shapeOf (wiresOf (now (wires .entry))) (now (actions .entry)) (now (details .entry))) nodes (wiresOf (now (wires .entry)))))) (now (out .entry)) (now (out .exit)) at r ⌝ }
+    ensures { λ r. ⌜ Written (each wireBytes (rewritten (wiresOf (now (wires .entry))) nodes (now (actions .entry)) (now (details .entry)))) (now (out .entry)) (now (out .exit)) at r ⌝ }
 {
     let mut stack = [0u16; limit::WIRES];
     let count = wires.len() / wire_records::SIZE;
@@ -274,6 +284,15 @@ pub fn write_wires(
     let mut chains = *first;
     sharing::share_chains(wires, nodes, actions, &mut chains, next);
     write_all(
-        wires, nodes, actions, details, sources, counts, &chains, next, out, at,
+        wires,
+        nodes,
+        actions,
+        details,
+        sources,
+        counts,
+        &chains,
+        next,
+        out,
+        at,
     )
 }

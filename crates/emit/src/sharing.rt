@@ -40,7 +40,8 @@ fn share(
     true
 }
 
-// One round. A Branch that still shares after it has passed twice as many Branches as the `far` before it; `nodes` where none shares.
+// One round, from the last node down, so that a row in number order needs one. Branches that still share have passed `far` Branches before it, and
+// at least as many as it returns after it.
 fn share_all(
     wires: &[u8],
     nodes: usize,
@@ -53,10 +54,10 @@ fn share_all(
     ensures { λ r. ⌜ Shared (wiresOf (now (wires .entry))) (now (actions .entry)) (now (next .entry)) (now (first .entry)) (now (first .exit)) × (far < r) ⌝ }
 {
     let mut any = false;
-    let mut b: usize = 0;
-    while b < nodes {
+    let mut b = nodes;
+    while 0 < b {
+        b = b - 1;
         any = any | share(wires, actions, first, next, b);
-        b = b + 1;
     }
     if any { 2 * far } else { nodes }
 }
