@@ -19,8 +19,8 @@ use Rattle.model.proofs.Maps.{none-some}
 use Rattle.model.proofs.TargetCounts.{both-some, reach-more}
 use Rattle.state.specs.Planned.{shapeAt, shapeOf}
 use Rattle.rewrite.proofs.Linking.{within}
-use Rattle.emit.specs.Emit.{leadsTo, Live, execOf, Expands, Net, Starts, Shared, Ready}
-use Rattle.emit.proofs.Stack.{Entered, enter}
+use Rattle.emit.specs.Emit.{leadsTo, Live, execOf, Expands, Net, Starts, Entered, Shared, Ready}
+use Rattle.emit.proofs.Stack.{enter}
 
 -- what is collected stays where each gives what it gave
 collect-more : (f g : Wire → Option (List PortRef)) → ((w : Wire) (xs : List PortRef) → f w ≡ some xs → g w ≡ some xs) → (us : List Wire) (ys : List PortRef) → collect f us ≡ some ys → collect g us ≡ some ys
@@ -101,17 +101,16 @@ shared-same S = record { starts = S; serves = λ n details N. N }
 pub shared-more : {ws : List Wire} {actions next first first′ first″ : List ℕ} → Shared ws actions next first first′ → Shared ws actions next first′ first″ → Shared ws actions next first first″
 shared-more S T = record { starts = T .starts; serves = λ n details N. T .serves n details (S .serves n details N) }
 
-pub shared-one : {ws : List Wire} {actions next first : List ℕ} → Starts ws actions first → (b code t : ℕ) → b < maxNodes → getD actions b 0 ≡ 3 → getD first b 0 ≡ code → 0 < code → getD next (code - 1) 0 ≡ 0 → getD ws (code - 1) noWire .target .«node_id» ≡ t → getD actions t 0 ≡ 3
-    → Shared ws actions next first (set first b (getD first t 0))
-shared-one {ws} {actions} {next} {first} S b code t l a e h alone there branch =
+pub shared-one : {ws : List Wire} {actions next first : List ℕ} → Starts ws actions first → {b t : ℕ} → b < maxNodes → Entered ws actions first next b t → Shared ws actions next first (set first b (getD first t 0))
+shared-one {ws} {actions} {next} {first} S {b} {t} l E =
     let low : b < length first = omega (arith, S .long) in
     record {
       starts = record { within = S .within; long = length-set first b (getD first t 0) ∙ S .long; inside = λ c r. go c r (ℕ-discrete c b) };
-      serves = λ n details N. net-shared ws n actions details first next N b code t a e h alone there branch low;
+      serves = λ n details N. net-shared ws n actions details first next N b (getD first b 0) t (E .branch) refl (E .some-code) (E .alone) (E .there) (E .enters) low;
     }
   where
     go : (c : ℕ) → getD actions c 0 ≡ 3 → Dec (c ≡ b) → getD (set first b (getD first t 0)) c 0 ≤ length ws
-    go c r (yes z) = rw (z, getD-set-same first b (getD first t 0) 0 (omega (arith, S .long))) (S .inside t branch)
+    go c r (yes z) = rw (z, getD-set-same first b (getD first t 0) 0 (omega (arith, S .long))) (S .inside t (E .enters))
     go c r (no z) = rw (getD-set-other first b c (getD first t 0) 0 z) (S .inside c r)
 
 -- the chains that `rewrite` leaves start so

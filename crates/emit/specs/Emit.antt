@@ -66,6 +66,15 @@ pub record Starts (ws : List Wire) (actions first : List ℕ) : Type 0 where
   pub long : length first ≡ maxNodes
   pub inside : (b : ℕ) → getD actions b 0 ≡ 3 → getD first b 0 ≤ length ws
 
+-- the only live wire of planned Branch b enters planned Branch t
+pub record Entered (ws : List Wire) (actions first next : List ℕ) (b t : ℕ) : Type 0 where
+  pub low : t < maxNodes
+  pub branch : getD actions b 0 ≡ 3
+  pub some-code : 0 < getD first b 0
+  pub alone : getD next (getD first b 0 - 1) 0 ≡ 0
+  pub there : getD ws (getD first b 0 - 1) noWire .target .«node_id» ≡ t
+  pub enters : getD actions t 0 ≡ 3
+
 -- after the sharing the chains serve any plan that they served before
 pub record Shared (ws : List Wire) (actions next first first′ : List ℕ) : Type 0 where
   pub starts : Starts ws actions first′

@@ -282,7 +282,7 @@ pub fn write_wires(
     ensures { λ r. ⌜ Written (each wireBytes (orNil (rewriteWires (shapeOf (wiresOf (now (wires .entry))) (now (actions .entry)) (now (details .entry))) nodes (wiresOf (now (wires .entry)))))) (now (out .entry)) (now (out .exit)) at r ⌝ }
 {
     let mut chains = *first;
-    sharing::share_chains(wires, nodes, actions, &mut chains, next);
+    sharing::share_chains(wires, nodes, actions, counts, &mut chains, next);
     write_all(
         wires,
         nodes,

@@ -1,5 +1,5 @@
 -- `emit::sharing::share_chains` meets its contract.
-use Prim.Native.Nat.{_-_, _<_}
+use Prim.Native.Nat.{_≤_}
 use native.Mathlib.Omega.{arith}
 use Rattle.records.specs.Access.{wiresOf}
 use Rattle.emit.specs.Emit.{Shared}
@@ -8,10 +8,10 @@ use Rattle.emit.proofs.sharing.share_chains.Statement.{statement}
 use Rattle.emit.proofs.sharing.share_chains.Tie as tie
 
 abbrev Inv-loop : tie.InvT-loop
-Inv-loop wires nodes actions first₀ next far₀ first far = (0 < far) × Shared (wiresOf wires) actions next first₀ first
+Inv-loop wires nodes actions counts first₀ next b₀ first b = (b ≤ nodes) × Shared (wiresOf wires) actions next first₀ first
 
 abbrev μ-loop : tie.MeasureT-loop
-μ-loop wires nodes actions first₀ next far₀ first far = nodes - far
+μ-loop wires nodes actions counts first₀ next b₀ first b = b
 
 has-action-requires : tie.Need-has-action-requires Inv-loop μ-loop
 has-action-requires c κs = c .before .pre .1
@@ -22,14 +22,17 @@ returns c = shared-same (c .before .before .before .pre .0)
 loop-holds : tie.Need-loop-holds Inv-loop μ-loop
 loop-holds c = (omega arith, shared-same (c .before .before .before .pre .0))
 
-share-all-requires : tie.Need-share-all-requires Inv-loop μ-loop
-share-all-requires c κs = (c .before .before .loop .inv .1 .starts, omega (arith, c .before .before .before .before .before .before .pre .1), c .before .before .loop .inv .0, c .before .loop-test .taken)
+sub-b : tie.Need-sub-b Inv-loop μ-loop
+sub-b c = omega arith
+
+share-row-requires : tie.Need-share-row-requires Inv-loop μ-loop
+share-row-requires c κs = (c .before .before .loop .inv .1 .starts, omega (arith, c .before .before .loop .inv .0, c .before .loop-test .taken, c .before .before .before .before .before .before .pre .1))
 
 loop-less : tie.Need-loop-less Inv-loop μ-loop
-loop-less c = omega (arith, c .share-all .ensures .1)
+loop-less c = omega arith
 
 loop-again : tie.Need-loop-again Inv-loop μ-loop
-loop-again c = (omega (arith, c .share-all .ensures .1), shared-more (c .before .before .before .loop .inv .1) (c .share-all .ensures .0))
+loop-again c = (omega arith, shared-more (c .before .before .before .loop .inv .1) (c .share-row .ensures))
 
 returns-2 : tie.Need-returns-2 Inv-loop μ-loop
 returns-2 c = c .before .loop .inv .1
@@ -43,7 +46,8 @@ share-chains-spec =
     has-action-requires
     returns
     loop-holds
-    share-all-requires
+    sub-b
+    share-row-requires
     loop-less
     loop-again
     returns-2)
