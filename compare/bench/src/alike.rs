@@ -1,49 +1,55 @@
-//! Answers with what counts alike made equal: all NaNs and, in graphs with classes 26 to 28, zeros of either sign.
+//! Which answers count as the same: all NaNs are alike and, in graphs with classes 26 to 28, zeros of either sign.
+use crate::records::{class, kind};
+use crate::tables::RECORD_LENGTHS;
+use std::ops::Range;
 
 const NAN: u64 = 0x7FF8_0000_0000_0000;
 const INFINITY: u64 = 0x7FF0_0000_0000_0000;
 const SIGN: u64 = 1 << 63;
+const WIRE: usize = RECORD_LENGTHS[kind::WIRE as usize];
 
-/// Where the floats of an answer's record start, how many there are, and the record's length.
-fn shape(kind: u8) -> Option<(usize, usize, usize)> {
-    Some(match kind {
-        0x02 => (0, 0, 7),
-        0x03 => (0, 0, 12),
-        0x04 => (4, 1, 12),
-        0x05 => (0, 0, 5),
-        0x06 | 0x07 => (4, 3, 28),
-        0x08 | 0x09 => (4, 4, 36),
-        0x10 | 0x11 => (0, 0, 3),
-        0x12 => (0, 0, 11),
-        0x13 => (3, 1, 11),
-        0x14 => (0, 0, 4),
-        0x15 => (3, 3, 27),
-        _ => return None,
+/// The length of a record of this kind.
+pub fn record_length(kind: u8) -> Option<usize> {
+    let length = RECORD_LENGTHS.get(usize::from(kind)).copied();
+    length.filter(|&length| length > 0)
+}
+
+/// An input or answer cut into records; a part that is none ends it, as one piece.
+pub fn records(bytes: &[u8]) -> impl Iterator<Item = &[u8]> {
+    let mut rest = bytes;
+    std::iter::from_fn(move || {
+        let length = record_length(*rest.first()?).unwrap_or(rest.len());
+        let (record, after) = rest.split_at(length.min(rest.len()));
+        rest = after;
+        Some(record)
     })
 }
 
-/// The length of an answer's record of this kind.
-pub fn record_length(kind: u8) -> Option<usize> {
-    shape(kind).map(|(_, _, length)| length)
+/// Where the floats of an answer's record stand.
+fn floats(record: &[u8]) -> Range<usize> {
+    match record[0] {
+        kind::FLOAT | kind::VECTOR..=kind::COLOR => 4..record.len(),
+        kind::LITERAL_FLOAT | kind::LITERAL_VECTOR => 3..record.len(),
+        _ => 0..0,
+    }
 }
 
 /// Whether an input has a node of classes 26 to 28.
 fn zeros_alike(input: &[u8]) -> bool {
-    let nodes = input.chunks_exact(3).take_while(|record| record[0] == 0x01);
-    nodes
-        .into_iter()
-        .any(|record| (26..=28).contains(&record[1]))
+    let mut nodes = input
+        .chunks_exact(3)
+        .take_while(|record| record[0] == kind::NODE);
+    nodes.any(|record| (class::MATH_MIN..=class::MATH_CLAMP).contains(&record[1]))
 }
 
-/// The answer with each such float in one form, up to the first byte that is no record's.
+/// The answer with each such float in one form.
 fn normal(answer: &[u8], zeros_alike: bool) -> Vec<u8> {
-    let mut normal = answer.to_vec();
-    let mut rest = &mut normal[..];
-    while let Some((floats, count, length)) = rest.first().and_then(|&kind| shape(kind)) {
-        let Some((record, after)) = rest.split_at_mut_checked(length) else {
-            break;
-        };
-        for bytes in record[floats..floats + 8 * count].as_chunks_mut::<8>().0 {
+    let mut normal = Vec::with_capacity(answer.len());
+    for record in records(answer) {
+        let floats = floats(record);
+        let start = normal.len() + floats.start;
+        normal.extend(record);
+        for bytes in normal[start..][..floats.len()].as_chunks_mut::<8>().0 {
             let bits = u64::from_le_bytes(*bytes);
             if bits & !SIGN > INFINITY {
                 *bytes = NAN.to_le_bytes();
@@ -51,7 +57,6 @@ fn normal(answer: &[u8], zeros_alike: bool) -> Vec<u8> {
                 *bytes = [0; 8];
             }
         }
-        rest = after;
     }
     normal
 }
@@ -60,4 +65,40 @@ fn normal(answer: &[u8], zeros_alike: bool) -> Vec<u8> {
 pub fn alike(input: &[u8], x: &[u8], y: &[u8]) -> bool {
     let zeros = zeros_alike(input);
     x == y || normal(x, zeros) == normal(y, zeros)
+}
+
+/// Where the wires of an answer start.
+pub fn wires_start(answer: &[u8]) -> usize {
+    let others = records(answer).take_while(|record| record[0] != kind::WIRE);
+    others.map(<[u8]>::len).sum()
+}
+
+/// `alike` for wires in any order.
+pub fn alike_as_bag(input: &[u8], x: &[u8], y: &[u8]) -> bool {
+    let ((nodes_x, wires_x), (nodes_y, wires_y)) =
+        (x.split_at(wires_start(x)), y.split_at(wires_start(y)));
+    let sorted = |wires: &[u8]| {
+        let mut wires: Vec<Vec<u8>> = wires.chunks(WIRE).map(<[u8]>::to_vec).collect();
+        wires.sort_unstable();
+        wires
+    };
+    alike(input, nodes_x, nodes_y) && sorted(wires_x) == sorted(wires_y)
+}
+
+/// What an answer's record is part of.
+fn part(record: &[u8]) -> &'static str {
+    match record[0] {
+        kind::WIRE => "wires",
+        kind::KEPT.. => "fates",
+        _ => "known values",
+    }
+}
+
+/// The part of an answer in which another differs first.
+pub fn differing_part(input: &[u8], wanted: &[u8], got: &[u8]) -> &'static str {
+    let zeros = zeros_alike(input);
+    let (wanted, got) = (normal(wanted, zeros), normal(got, zeros));
+    let mut pairs = records(&wanted).zip(records(&got));
+    let first = pairs.find(|(wanted, got)| wanted != got);
+    first.map_or("wires", |(wanted, _)| part(wanted))
 }

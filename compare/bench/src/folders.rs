@@ -1,9 +1,32 @@
 //! The folders under one form: an input and an answer buffer in, an outcome out.
 
+/// The four numbers that a folder returns.
 #[derive(Clone, Copy, Debug, PartialEq, Eq)]
-pub enum Outcome {
-    Folded { length: usize, pops: usize },
-    Refused { number: u8, place: usize },
+pub struct Outcome {
+    pub number: u8,
+    pub place: usize,
+    pub length: usize,
+    pub pops: usize,
+}
+
+impl Outcome {
+    pub fn folded(length: usize, pops: usize) -> Self {
+        Outcome {
+            number: 0,
+            place: 0,
+            length,
+            pops,
+        }
+    }
+
+    pub fn refused(number: u8, place: usize) -> Self {
+        Outcome {
+            number,
+            place,
+            length: 0,
+            pops: 0,
+        }
+    }
 }
 
 pub type Fold = fn(&[u8], &mut [u8]) -> Outcome;
@@ -13,8 +36,8 @@ pub type Worklist = fn(&[u8]) -> Result<usize, u8>;
 #[inline(never)]
 pub fn plain(input: &[u8], out: &mut [u8]) -> Outcome {
     match plain::fold(input, out) {
-        Ok((length, pops)) => Outcome::Folded { length, pops },
-        Err((number, place)) => Outcome::Refused { number, place },
+        Ok((length, pops)) => Outcome::folded(length, pops),
+        Err((number, place)) => Outcome::refused(number, place),
     }
 }
 
@@ -55,7 +78,8 @@ mod proved {
 
     #[inline(never)]
     pub fn fold(input: &[u8], out: &mut [u8]) -> Outcome {
-        let (mut place, mut length, mut pops) = (0, 0, 0);
+        // No outcome has this number, so one that is not written shows.
+        let (mut place, mut length, mut pops) = (usize::MAX, usize::MAX, usize::MAX);
         // SAFETY: each pointer is to so many bytes, or to one number, and is used in the call only.
         let number = unsafe {
             mezburiko_fold(
@@ -68,9 +92,11 @@ mod proved {
                 &mut pops,
             )
         };
-        match number {
-            0 => Outcome::Folded { length, pops },
-            _ => Outcome::Refused { number, place },
+        Outcome {
+            number,
+            place,
+            length,
+            pops,
         }
     }
 }

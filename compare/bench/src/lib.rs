@@ -1,16 +1,30 @@
 //! Folders of document 01's graphs side by side: the proved one, a plain Rust one and the original.
 //!
-//! `records` and `shapes` make graphs, `random` makes them at random. `folders` and `original` run
-//! them, `alike` compares answers, `timing` and `stack` measure, `table` prints.
+//! - Graphs: `tables` and `records` write them, `shapes` makes certain ones, `random` and `families`
+//!   make them at random from `rng` and `operands`, and `damage` spoils them.
+//! - Folders: `folders` and `original` run them, and `oracle` asks the original as a program.
+//! - Comparison: `alike` says which answers count as the same, `held` holds a folder to the oracle,
+//!   `shrink` makes an input that differs small, `tally` and `progress` tell.
+//! - Measuring: `timing` and `stack`, with `table` to print.
 
 pub mod alike;
+pub mod damage;
+pub mod families;
 pub mod folders;
+pub mod held;
+pub mod operands;
+pub mod oracle;
 pub mod original;
+pub mod progress;
 pub mod random;
 pub mod records;
+pub mod rng;
 pub mod shapes;
+pub mod shrink;
 pub mod stack;
 pub mod table;
+pub mod tables;
+pub mod tally;
 pub mod timing;
 
 // The oracle's own reading of graphs into the original's data, and its writing of answers.

@@ -1,116 +1,10 @@
 //! Random graphs that fold much: gates with matching rows, chains of Selects and Branches, cycles,
-//! fan-in, nofold nodes, special values; and damaged copies of them.
-use crate::records::{Graph, Property, class, port, variant};
+//! fan-in, nofold nodes, special values.
+use crate::operands::{PALETTES, value};
+use crate::records::{Graph, class, limit, port, variant};
+use crate::rng::Rng;
+use crate::tables::{INPUT_PORTS, ROW_LENGTHS};
 use std::collections::HashSet;
-
-/// xorshift64*.
-pub struct Rng(u64);
-
-impl Rng {
-    pub fn new(seed: u64) -> Self {
-        let mut rng = Rng(seed.wrapping_mul(0x9E37_79B9_7F4A_7C15) | 1);
-        for _ in 0..8 {
-            rng.next();
-        }
-        rng
-    }
-
-    pub fn next(&mut self) -> u64 {
-        self.0 ^= self.0 >> 12;
-        self.0 ^= self.0 << 25;
-        self.0 ^= self.0 >> 27;
-        self.0.wrapping_mul(0x2545_F491_4F6C_DD1D)
-    }
-
-    pub fn below(&mut self, limit: usize) -> usize {
-        ((u128::from(self.next()) * limit as u128) >> 64) as usize
-    }
-
-    pub fn between(&mut self, first: usize, last: usize) -> usize {
-        first + self.below(last - first + 1)
-    }
-
-    pub fn percent(&mut self, chance: usize) -> bool {
-        self.below(100) < chance
-    }
-
-    pub fn pick<T: Copy>(&mut self, from: &[T]) -> T {
-        from[self.below(from.len())]
-    }
-
-    pub fn shuffle<T>(&mut self, items: &mut [T]) {
-        for i in (1..items.len()).rev() {
-            items.swap(i, self.below(i + 1));
-        }
-    }
-}
-
-const INTS: [i64; 24] = [
-    0,
-    0,
-    1,
-    1,
-    -1,
-    2,
-    3,
-    -3,
-    -7,
-    7,
-    10,
-    63,
-    64,
-    -64,
-    (1 << 53) - 1,
-    1 << 53,
-    (1 << 53) + 1,
-    -(1 << 53),
-    -(1 << 53) - 1,
-    i64::MAX,
-    i64::MAX - 1,
-    i64::MIN,
-    i64::MIN + 1,
-    0x5555_5555_5555_5555,
-];
-const FLOATS: [f64; 26] = [
-    0.0,
-    -0.0,
-    1.0,
-    -1.0,
-    0.5,
-    -0.5,
-    1.5,
-    2.5,
-    -2.5,
-    3.0,
-    -6.0,
-    -7.0,
-    0.1,
-    0.499_999_999_999_999_94,
-    4_503_599_627_370_495.5,
-    -4_503_599_627_370_497.5,
-    9_007_199_254_740_992.0,
-    1e16,
-    5e-324,
-    -5e-324,
-    f64::MAX,
-    f64::MIN,
-    f64::INFINITY,
-    f64::NEG_INFINITY,
-    f64::NAN,
-    7.25,
-];
-/// Variants that meet in one graph.
-const PALETTES: [&[u8]; 9] = [
-    &[1],
-    &[2],
-    &[3],
-    &[1, 2],
-    &[1, 3],
-    &[1, 2, 3],
-    &[2, 4],
-    &[1, 2, 3, 4],
-    &[1, 2, 3, 4, 5, 6, 7],
-];
 
 /// What a graph is made of.
 struct Style {
@@ -148,7 +42,7 @@ fn style(rng: &mut Rng, nodes: usize) -> Style {
         fan_in: rng.pick(&[0, 5, 20]),
         property: rng.pick(&[40, 80, 95]),
         nofold: rng.pick(&[0, 0, 3, 15]),
-        wires: (nodes * rng.pick(&[1, 2, 3, 5, 8]) / 2).min(4_096),
+        wires: (nodes * rng.pick(&[1, 2, 3, 5, 8]) / 2).min(limit::WIRES),
     }
 }
 
@@ -164,7 +58,7 @@ pub fn graph(rng: &mut Rng, nodes: usize) -> Graph {
     let wired = add_wires(rng, &style, &mut graph);
     add_properties(rng, &style, &mut graph, &wired);
     add_rows(rng, &style, &mut graph);
-    for class in [class::AND, class::OR] {
+    for class in [class::LOGICAL_AND, class::LOGICAL_OR] {
         if rng.percent(50) {
             graph.annihilators.push(class);
         }
@@ -172,21 +66,11 @@ pub fn graph(rng: &mut Rng, nodes: usize) -> Graph {
     graph
 }
 
-/// Mostly small, at times up to the limits.
-pub fn any_size(rng: &mut Rng) -> usize {
-    match rng.below(1_000) {
-        0..700 => rng.between(1, 12),
-        700..950 => rng.between(13, 60),
-        950..997 => rng.between(61, 250),
-        _ => rng.between(900, 1_024),
-    }
-}
-
 fn node_class(rng: &mut Rng, style: &Style) -> u8 {
     let mut part = rng.below(100);
     let classes = [
         class::LITERAL,
-        rng.pick(&[class::CHIP_INPUT, class::CHIP_OUTPUT]),
+        rng.pick(&[class::MICROCHIP_INPUT, class::MICROCHIP_OUTPUT]),
         class::SELECT,
         class::BRANCH,
         class::OTHER,
@@ -200,16 +84,12 @@ fn node_class(rng: &mut Rng, style: &Style) -> u8 {
     rng.pick(&style.gates)
 }
 
-/// The ports that a node of a class reads.
+/// The ports that a node of a class reads; a Branch's Exec takes most wires.
 fn inputs(class: u8) -> &'static [u8] {
     match class {
-        class::OTHER | class::LITERAL => &[],
-        class::CHIP_INPUT | class::CHIP_OUTPUT => &[port::RER_INPUT],
-        class::SELECT => &[port::INPUT_A, port::INPUT_B, port::SELECT_B],
-        class::BRANCH => &[port::EXEC, port::EXEC, port::EXEC, port::EXEC, port::COND],
-        15 | 23..=25 | 30..=32 | 36 | 41 => &[port::INPUT_A],
-        28 => &[port::INPUT_A, port::INPUT_B, port::INPUT_C],
-        _ => &[port::INPUT_A, port::INPUT_B],
+        class::SELECT => &[port::INPUT_A, port::INPUT_B, port::B_SELECT_B],
+        class::BRANCH => &[port::EXEC, port::EXEC, port::EXEC, port::EXEC, port::B_COND],
+        _ => INPUT_PORTS[usize::from(class)],
     }
 }
 
@@ -278,34 +158,16 @@ fn add_property(
     port: u8,
 ) {
     let size: usize = graph.properties.iter().map(|p| 4 + p.value.len()).sum();
-    if graph.properties.len() == 2_048 || size > 24_000 || !used.insert((node, port)) {
+    if graph.properties.len() == limit::PROPERTIES || size > 24_000 || !used.insert((node, port)) {
         return;
     }
     let variant = if rng.percent(3) {
-        rng.between(1, usize::from(variant::LAST)) as u8
+        rng.between(1, usize::from(variant::COLOR)) as u8
     } else {
         rng.pick(style.palette)
     };
     let value = value(rng, variant);
-    graph.properties.push(Property {
-        variant,
-        node,
-        port,
-        value,
-    });
-}
-
-fn value(rng: &mut Rng, variant: u8) -> Vec<u8> {
-    match variant {
-        variant::INT if rng.percent(50) => (rng.below(9) as i64 - 4).to_le_bytes().to_vec(),
-        variant::INT => rng.pick(&INTS).to_le_bytes().to_vec(),
-        variant::BOOL => vec![rng.below(2) as u8],
-        _ => {
-            let parts = [0, 0, 1, 0, 3, 3, 4, 4][usize::from(variant)];
-            let floats = (0..parts).flat_map(|_| rng.pick(&FLOATS).to_bits().to_le_bytes());
-            floats.collect()
-        }
-    }
+    graph.property(variant, node, port, value);
 }
 
 /// Rows for the classes and variants at hand, with gaps.
@@ -323,16 +185,13 @@ fn add_rows(rng: &mut Rng, style: &Style, graph: &mut Graph) {
         .collect();
     classes.sort_unstable();
     for class in classes {
-        let count = match class {
-            class::SELECT | class::BRANCH => 1,
-            _ => inputs(class).len(),
-        };
+        let count = ROW_LENGTHS[usize::from(class)];
         for number in 0..variants.len().pow(count as u32) {
             let place = |i: u32| match i < count as u32 {
                 true => variants[number / variants.len().pow(i) % variants.len()],
                 false => 0,
             };
-            if graph.rows.len() < 1_024 && rng.percent(chance) {
+            if graph.rows.len() < limit::ROWS && rng.percent(chance) {
                 graph.row(class, [place(0), place(1), place(2)]);
             }
         }
@@ -340,47 +199,4 @@ fn add_rows(rng: &mut Rng, style: &Style, graph: &mut Graph) {
     if rng.percent(10) {
         rng.shuffle(&mut graph.rows);
     }
-}
-
-/// A copy of a graph's bytes with something wrong or odd in it.
-pub fn damaged(rng: &mut Rng, graph: &Graph) -> Vec<u8> {
-    let mut records = graph.records();
-    match rng.below(6) {
-        0 if records.len() > 1 => {
-            let at = rng.below(records.len() - 1);
-            records.swap(at, at + 1);
-        }
-        1 if !records.is_empty() => {
-            let record = records[rng.below(records.len())].clone();
-            records.insert(rng.below(records.len() + 1), record);
-        }
-        2 if !records.is_empty() => {
-            let at = rng.below(records.len());
-            records.remove(at);
-        }
-        3 if !records.is_empty() => {
-            let at = rng.below(records.len());
-            records.insert(at, vec![rng.below(16) as u8]);
-        }
-        4 => {
-            let length = rng.below(40);
-            records.push((0..length).map(|_| rng.below(14) as u8).collect());
-        }
-        _ => {}
-    }
-    let mut bytes = records.concat();
-    for _ in 0..rng.below(3) {
-        if !bytes.is_empty() {
-            let at = rng.below(bytes.len());
-            bytes[at] = match rng.below(3) {
-                0 => rng.below(256) as u8,
-                1 => bytes[at] ^ 1 << rng.below(8),
-                _ => rng.below(14) as u8,
-            };
-        }
-    }
-    if rng.percent(15) {
-        bytes.truncate(rng.below(bytes.len() + 1));
-    }
-    bytes
 }

@@ -1,40 +1,6 @@
 //! Graphs as document 01's records.
 
-pub mod port {
-    pub const OUTPUT: u8 = 0;
-    pub const EXEC: u8 = 1;
-    pub const INPUT_A: u8 = 2;
-    pub const INPUT_B: u8 = 3;
-    pub const SELECT_B: u8 = 4;
-    pub const COND: u8 = 5;
-    pub const EXEC_OUT_A: u8 = 6;
-    pub const EXEC_OUT_B: u8 = 7;
-    pub const RER_INPUT: u8 = 8;
-    pub const INPUT_C: u8 = 9;
-    pub const VALUE: u8 = 10;
-}
-
-pub mod class {
-    pub const OTHER: u8 = 0;
-    pub const LITERAL: u8 = 1;
-    pub const CHIP_INPUT: u8 = 2;
-    pub const CHIP_OUTPUT: u8 = 3;
-    pub const SELECT: u8 = 4;
-    pub const BRANCH: u8 = 5;
-    pub const EQUAL: u8 = 6;
-    pub const AND: u8 = 12;
-    pub const OR: u8 = 13;
-    pub const ADD: u8 = 18;
-    pub const LAST: u8 = 41;
-}
-
-pub mod variant {
-    pub const UNWIRED: u8 = 0;
-    pub const INT: u8 = 1;
-    pub const FLOAT: u8 = 2;
-    pub const BOOL: u8 = 3;
-    pub const LAST: u8 = 7;
-}
+pub use crate::tables::{class, flag, kind, limit, port, variant};
 
 /// The parts of a graph; the property's value has the bytes that its variant asks for.
 #[derive(Clone, Default)]
@@ -73,13 +39,17 @@ impl Graph {
         self.wires.push((source.0, source.1, target.0, target.1));
     }
 
-    pub fn int(&mut self, node: u16, port: u8, value: i64) {
+    pub fn property(&mut self, variant: u8, node: u16, port: u8, value: Vec<u8>) {
         self.properties.push(Property {
-            variant: variant::INT,
+            variant,
             node,
             port,
-            value: value.to_le_bytes().to_vec(),
+            value,
         });
+    }
+
+    pub fn int(&mut self, node: u16, port: u8, value: i64) {
+        self.property(variant::INT, node, port, value.to_le_bytes().to_vec());
     }
 
     pub fn row(&mut self, class: u8, variants: [u8; 3]) {
@@ -113,11 +83,11 @@ impl Graph {
     pub fn records(&self) -> Vec<Vec<u8>> {
         let mut records = Vec::new();
         for &(class, flags) in &self.nodes {
-            records.push(vec![0x01, class, flags]);
+            records.push(vec![kind::NODE, class, flags]);
         }
         for &(source, source_port, target, target_port) in &self.wires {
             let ([a, b], [c, d]) = (source.to_le_bytes(), target.to_le_bytes());
-            records.push(vec![0x02, a, b, source_port, c, d, target_port]);
+            records.push(vec![kind::WIRE, a, b, source_port, c, d, target_port]);
         }
         let mut properties: Vec<&Property> = self.properties.iter().collect();
         properties.sort_by_key(|property| property.variant);
@@ -128,10 +98,10 @@ impl Graph {
             records.push(record);
         }
         for &[class, a, b, c] in &self.rows {
-            records.push(vec![0x0A, class, a, b, c]);
+            records.push(vec![kind::ROW, class, a, b, c]);
         }
         for &class in &self.annihilators {
-            records.push(vec![0x0B, class]);
+            records.push(vec![kind::ANNIHILATOR, class]);
         }
         records
     }

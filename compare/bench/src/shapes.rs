@@ -1,10 +1,17 @@
 //! The graphs of the tables: large ones that fold much or nothing, and ones made to be slow.
 use crate::original;
-use crate::random::{self, Rng};
-use crate::records::{Graph, class, port, variant};
+use crate::random;
+use crate::records::{Graph, class, limit, port, variant};
+use crate::rng::Rng;
+use crate::tables::ROW_LENGTHS;
 
-pub const NODES: usize = 1_024;
-const LINK: [u8; 4] = [port::INPUT_A, port::INPUT_B, port::RER_INPUT, port::INPUT_C];
+pub const NODES: usize = limit::NODES;
+const LINK: [u8; 4] = [
+    port::INPUT_A,
+    port::INPUT_B,
+    port::RER_INPUT,
+    port::THIRD_INPUT,
+];
 
 #[derive(Clone)]
 pub struct Shape {
@@ -118,9 +125,9 @@ pub fn fan(nodes: usize) -> Graph {
 fn literal_and_adds(nodes: usize) -> Graph {
     let mut graph = Graph::default();
     graph.node(class::LITERAL);
-    graph.nodes(class::ADD, nodes - 1);
+    graph.nodes(class::MATH_ADD, nodes - 1);
     graph.int(0, port::VALUE, 0);
-    graph.row(class::ADD, [variant::INT, variant::INT, 0]);
+    graph.row(class::MATH_ADD, [variant::INT, variant::INT, 0]);
     graph
 }
 
@@ -239,12 +246,12 @@ pub fn dead_wires() -> Graph {
 pub fn rows(mut graph: Graph, count: usize) -> Graph {
     let needed = std::mem::take(&mut graph.rows);
     let needed_before = |rows: &Vec<_>| rows.len() + needed.len() < count;
-    'filling: for class in (class::ADD + 1)..=class::LAST {
+    'filling: for class in (class::MATH_ADD + 1)..=class::BITWISE_BIT_COUNT {
         for pair in 0..64u8 {
             if !needed_before(&graph.rows) {
                 break 'filling;
             }
-            let one_input = matches!(class, 15 | 23..=25 | 30..=32 | 36 | 41);
+            let one_input = ROW_LENGTHS[usize::from(class)] == 1;
             let second = if one_input { 0 } else { pair % 8 };
             graph.row(class, [pair / 8, second, 0]);
         }
@@ -299,19 +306,14 @@ pub fn limits() -> Vec<Vec<u8>> {
 fn long_answer() -> Graph {
     let mut graph = Graph::default();
     graph.node(class::LITERAL);
-    graph.nodes(class::CHIP_INPUT, 1_023);
+    graph.nodes(class::MICROCHIP_INPUT, 1_023);
     for target in 1..1_024 {
         graph.wire((0, port::OUTPUT), (target, port::RER_INPUT));
         for port in 2..5 {
             graph.wire((0, port::OUTPUT), (target, port));
         }
     }
-    graph.properties.push(crate::records::Property {
-        variant: 6,
-        node: 0,
-        port: port::VALUE,
-        value: vec![1; 32],
-    });
+    graph.property(variant::QUAT, 0, port::VALUE, vec![1; 32]);
     graph
 }
 

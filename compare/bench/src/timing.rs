@@ -121,10 +121,7 @@ pub fn check(shape: &Shape) -> (Outcome, Vec<u8>) {
         let mut prepared = original::prepare(&shape.input);
         let folded = original::fold(&mut prepared);
         let (bytes, pops) = original::answer(&prepared, &folded).expect("it ends");
-        let other = Outcome::Folded {
-            length: bytes.len(),
-            pops,
-        };
+        let other = Outcome::folded(bytes.len(), pops);
         assert!(
             other == outcome && alike(&shape.input, &answer, &bytes),
             "original: {}",
@@ -137,10 +134,7 @@ pub fn check(shape: &Shape) -> (Outcome, Vec<u8>) {
 fn run(fold: Fold, input: &[u8]) -> (Outcome, Vec<u8>) {
     let mut out = vec![0; BUFFER];
     let outcome = fold(input, &mut out);
-    out.truncate(match outcome {
-        Outcome::Folded { length, .. } => length,
-        Outcome::Refused { .. } => 0,
-    });
+    out.truncate(outcome.length);
     (outcome, out)
 }
 

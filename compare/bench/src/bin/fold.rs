@@ -1,5 +1,5 @@
 //! Prints the tables of times and of stack for whole folds.
-use bench::folders::{self, Fold, Outcome};
+use bench::folders::{self, Fold};
 use bench::records::Graph;
 use bench::shapes::{self, NODES, Shape};
 use bench::stack;
@@ -55,10 +55,12 @@ fn times(heading: &str, shapes: &[Shape]) {
     let mut table = Table::new(&[&["graph", "pops", "answer, bytes"], &TIME_HEADS[..]].concat());
     for (shape, times) in shapes.iter().zip(timing::fold_all(shapes, EFFORT)) {
         let (outcome, _) = timing::check(shape);
-        let Outcome::Folded { length, pops } = outcome else {
-            panic!("{} is refused", shape.name);
-        };
-        let facts = vec![shape.name.clone(), whole(pops), whole(length)];
+        assert_eq!(outcome.number, 0, "{} is refused", shape.name);
+        let facts = vec![
+            shape.name.clone(),
+            whole(outcome.pops),
+            whole(outcome.length),
+        ];
         table.row([facts, cells(&times)].concat());
     }
     table.print(&format!("{heading} (µs)"));

@@ -1,0 +1,248 @@
+//! Folds inputs with the oracle's program and with each folder that is linked, and holds these to it.
+//!
+//!     compare ORACLE COUNT SEED
+//!
+//! ORACLE is the program that compare/oracle/build makes. The inputs are certain graphs, every run of at most two
+//! bytes, and COUNT made at random from SEED. Where a folder differs, the smallest input found is printed with both
+//! answers, and the exit status is 1. docs/COMPARISON.md says what is held alike.
+use bench::families;
+use bench::folders::{self, Fold, Outcome};
+use bench::held::{self, Difference, Paint, buffers};
+use bench::oracle::{Oracle, Said};
+use bench::progress::Progress;
+use bench::shapes;
+use bench::shrink;
+use bench::tally::Tally;
+use std::collections::BTreeMap;
+use std::process::ExitCode;
+use std::sync::mpsc::{SyncSender, sync_channel};
+use std::thread;
+
+const BATCH: usize = 500;
+/// One input of so many is folded into the program's whole buffer too.
+const WIDE: usize = 8;
+
+struct Case {
+    family: &'static str,
+    input: Vec<u8>,
+}
+
+/// The certain inputs, then those at random.
+fn cases(count: u64, seed: u64) -> impl Iterator<Item = Case> {
+    let certain = |family| move |input| Case { family, input };
+    let shapes = shapes::all().into_iter().map(|shape| shape.input);
+    let shapes = shapes.chain(shapes::limits()).map(certain("certain"));
+    let short = families::short_inputs().map(certain("two bytes"));
+    let random = (0..count).map(move |index| {
+        let (family, input) = families::input(seed, index);
+        Case { family, input }
+    });
+    shapes.chain(short).chain(random)
+}
+
+/// Cases with what the oracle says, or the one that it ends on.
+type Asked = Result<Vec<(Case, Said)>, Case>;
+
+/// Asks the oracle of all cases, batch by batch.
+fn ask(program: &str, mut cases: impl Iterator<Item = Case>, sender: &SyncSender<Asked>) {
+    let mut oracle = Oracle::start(program);
+    loop {
+        let mut batch: Vec<Case> = cases.by_ref().take(BATCH).collect();
+        if batch.is_empty() {
+            return;
+        }
+        let inputs: Vec<&[u8]> = batch.iter().map(|case| &case.input[..]).collect();
+        let asked = match oracle.ask(&inputs) {
+            Ok(said) => Ok(batch.into_iter().zip(said).collect()),
+            Err(at) => Err(batch.swap_remove(at)),
+        };
+        let ended = asked.is_err();
+        if sender.send(asked).is_err() || ended {
+            return;
+        }
+    }
+}
+
+struct Comparison {
+    folders: Vec<(&'static str, Fold)>,
+    paint: Paint,
+    tally: Tally,
+    /// Inputs on which a folder differs, by folder.
+    differing: BTreeMap<usize, Vec<Case>>,
+}
+
+impl Comparison {
+    fn new() -> Self {
+        let mut folders: Vec<(&str, Fold)> = vec![("plain", folders::plain)];
+        folders.extend(folders::PROVED.map(|fold| ("proved", fold)));
+        Comparison {
+            folders,
+            paint: Paint::default(),
+            tally: Tally::default(),
+            differing: BTreeMap::new(),
+        }
+    }
+
+    fn add(&mut self, case: Case, said: &Said) {
+        let wide = self.tally.inputs % WIDE == 0;
+        self.tally.add_input(case.family, &case.input, said);
+        let buffers = buffers(said, wide);
+        for &buffer in &buffers {
+            self.tally.add_fold(said, buffer);
+        }
+        for folder in 0..self.folders.len() {
+            if self
+                .difference(folder, &case.input, said, &buffers)
+                .is_some()
+            {
+                let Case { family, ref input } = case;
+                let input = input.clone();
+                self.differing
+                    .entry(folder)
+                    .or_default()
+                    .push(Case { family, input });
+            }
+        }
+    }
+
+    /// How a folder differs on an input, for the first such length of buffer.
+    fn difference(
+        &mut self,
+        folder: usize,
+        input: &[u8],
+        said: &Said,
+        buffers: &[usize],
+    ) -> Option<Difference> {
+        let fold = self.folders[folder].1;
+        let mut lengths = buffers.iter();
+        lengths.find_map(|&buffer| self.paint.difference(fold, input, said, buffer))
+    }
+
+    /// Prints, for each folder that differs, the smallest input found.
+    fn report(&mut self, program: &str) {
+        let mut oracle = Oracle::start(program);
+        for (folder, cases) in std::mem::take(&mut self.differing) {
+            let shortest = cases
+                .iter()
+                .min_by_key(|case| case.input.len())
+                .expect("one differs");
+            let mut on = |input: &[u8]| {
+                let said = oracle.ask_one(input)?;
+                self.difference(folder, input, &said, &buffers(&said, true))
+            };
+            let input = shrink::smallest(&shortest.input, |input| on(input).is_some());
+            let difference = on(&input).expect("the smallest differs");
+            let name = self.folders[folder].0;
+            println!(
+                "{name} differs on {} inputs of the last batch; the smallest found is from '{}':",
+                cases.len(),
+                shortest.family
+            );
+            print_difference(&input, &difference);
+        }
+    }
+
+    /// Whether all were alike so far.
+    fn alike(&self) -> bool {
+        self.differing.is_empty()
+    }
+
+    fn print(&self, seed: u64, progress: &Progress) {
+        self.tally.print();
+        let names: Vec<&str> = self.folders.iter().map(|(name, _)| *name).collect();
+        println!(
+            "{} inputs, {} folds by {} beside the oracle, seed {seed}, {} s: {}",
+            self.tally.inputs,
+            self.tally.fold_count(),
+            names.join(" and by "),
+            progress.elapsed().as_secs(),
+            if self.alike() {
+                "none differs"
+            } else {
+                "some differ"
+            }
+        );
+    }
+}
+
+fn print_difference(input: &[u8], difference: &Difference) {
+    println!("  input   {}", hex(input));
+    println!("  buffer  {} bytes", difference.buffer);
+    println!("  differs {}", difference.what);
+    let answer = |name: &str, (outcome, bytes): &(Outcome, Vec<u8>)| {
+        let Outcome {
+            number,
+            place,
+            length,
+            pops,
+        } = outcome;
+        println!(
+            "  {name} number {number}, place {place}, length {length}, pops {pops}: {}",
+            hex(bytes)
+        );
+    };
+    answer("oracle ", &difference.wanted);
+    match &difference.got {
+        Some(got) => answer("folder ", got),
+        None => println!("  folder  it panics"),
+    }
+}
+
+fn hex(bytes: &[u8]) -> String {
+    match bytes {
+        [] => "-".to_string(),
+        _ => bytes.iter().map(|byte| format!("{byte:02x}")).collect(),
+    }
+}
+
+/// Compares on all cases, up to the batch in which a folder differs; whether none does.
+fn run(program: &str, count: u64, seed: u64) -> bool {
+    let total = cases(0, seed).count() + count as usize;
+    let mut comparison = Comparison::new();
+    let mut progress = Progress::default();
+    let (sender, receiver) = sync_channel(4);
+    let oracle = program.to_string();
+    thread::spawn(move || ask(&oracle, cases(count, seed), &sender));
+    for asked in receiver {
+        let batch = match asked {
+            Ok(batch) => batch,
+            Err(Case { family, input }) => {
+                println!(
+                    "the oracle ends on an input from '{family}': {}",
+                    hex(&input)
+                );
+                return false;
+            }
+        };
+        for (case, said) in batch {
+            comparison.add(case, &said);
+        }
+        progress.tell(comparison.tally.inputs, total);
+        if !comparison.alike() {
+            progress.clear();
+            comparison.report(program);
+            return false;
+        }
+    }
+    progress.clear();
+    comparison.print(seed, &progress);
+    comparison.tally.inputs == total
+}
+
+fn main() -> ExitCode {
+    let arguments: Vec<String> = std::env::args().skip(1).collect();
+    let numbers: Vec<u64> = arguments
+        .iter()
+        .skip(1)
+        .flat_map(|word| word.parse())
+        .collect();
+    let (Some(oracle), &[count, seed]) = (arguments.first(), &numbers[..]) else {
+        eprintln!("usage: compare ORACLE COUNT SEED");
+        return ExitCode::from(2);
+    };
+    held::silence_folders();
+    match run(oracle, count, seed) {
+        true => ExitCode::SUCCESS,
+        false => ExitCode::FAILURE,
+    }
+}

@@ -1,0 +1,85 @@
+//! Inputs at random in families, each rich in something.
+mod gates;
+mod limits;
+mod routes;
+
+use crate::damage::damaged;
+use crate::random;
+use crate::records::Graph;
+use crate::rng::Rng;
+
+pub struct Family {
+    pub name: &'static str,
+    /// How many of a thousand inputs are of the family.
+    share: usize,
+    make: fn(&mut Rng) -> Vec<u8>,
+}
+
+const FAMILIES: [Family; 9] = [
+    family("mixed", 380, |rng| mixed(rng).bytes()),
+    family("gates", 240, |rng| gates::gates(rng).bytes()),
+    family("annihilators", 70, |rng| gates::annihilators(rng).bytes()),
+    family("routes", 140, |rng| routes::routes(rng).bytes()),
+    family("doubling", 12, |rng| routes::doubling(rng).bytes()),
+    family("products", 5, |rng| routes::products(rng).bytes()),
+    family("limits", 3, |rng| limits::limits(rng).bytes()),
+    family("damaged", 120, |rng| {
+        let graph = small(rng);
+        damaged(rng, &graph)
+    }),
+    family("bytes", 30, bytes),
+];
+
+const fn family(name: &'static str, share: usize, make: fn(&mut Rng) -> Vec<u8>) -> Family {
+    Family { name, share, make }
+}
+
+/// Input number `index` of a seed, with its family's name.
+pub fn input(seed: u64, index: u64) -> (&'static str, Vec<u8>) {
+    let rng = &mut Rng::new(seed.wrapping_mul(0xD134_2543_DE82_EF95).wrapping_add(index));
+    let mut part = rng.below(FAMILIES.iter().map(|family| family.share).sum());
+    for family in &FAMILIES {
+        if part < family.share {
+            return (family.name, (family.make)(rng));
+        }
+        part -= family.share;
+    }
+    unreachable!("the part is below the sum");
+}
+
+/// Mostly small, at times up to the limits.
+fn mixed(rng: &mut Rng) -> Graph {
+    let nodes = match rng.below(1_000) {
+        0..700 => rng.between(1, 12),
+        700..965 => rng.between(13, 40),
+        965..997 => rng.between(41, 250),
+        _ => rng.between(900, 1_024),
+    };
+    random::graph(rng, nodes)
+}
+
+/// A small graph of some family.
+fn small(rng: &mut Rng) -> Graph {
+    match rng.below(4) {
+        0 => gates::gates(rng),
+        1 => routes::routes(rng),
+        _ => {
+            let nodes = rng.between(1, 12);
+            random::graph(rng, nodes)
+        }
+    }
+}
+
+/// A run of bytes that often begin records.
+fn bytes(rng: &mut Rng) -> Vec<u8> {
+    let length = rng.below(60);
+    let most = rng.pick(&[4, 14, 44, 256]);
+    (0..length).map(|_| rng.below(most) as u8).collect()
+}
+
+/// Every run of at most two bytes.
+pub fn short_inputs() -> impl Iterator<Item = Vec<u8>> {
+    let ones = (0..=255).map(|byte| vec![byte]);
+    let twos = (0..=u16::MAX).map(|both| both.to_be_bytes().to_vec());
+    std::iter::once(Vec::new()).chain(ones).chain(twos)
+}

@@ -1,0 +1,138 @@
+//! Counts what a run has met, and prints them.
+use crate::alike::records;
+use crate::oracle::Said;
+use crate::records::{class, kind};
+use crate::table::{Table, whole};
+use crate::tables::{CLASS_NAMES, VARIANT_NAMES};
+use std::collections::{BTreeMap, HashSet};
+
+/// Outcomes by number: 0 for an answer, and refusals 1 to 11.
+type ByNumber = [usize; 12];
+
+#[derive(Default)]
+pub struct Tally {
+    pub inputs: usize,
+    /// Inputs, for a buffer that is long enough.
+    families: BTreeMap<&'static str, ByNumber>,
+    /// Folds, each of an input and a length of buffer.
+    folds: ByNumber,
+    /// Different places of each refusal.
+    places: BTreeMap<u8, HashSet<usize>>,
+    /// Of answers that are accepted.
+    counts: BTreeMap<(usize, String), usize>,
+    /// Planned literals by class.
+    literals: BTreeMap<u8, usize>,
+}
+
+impl Tally {
+    pub fn add_fold(&mut self, said: &Said, buffer: usize) {
+        self.folds[usize::from(said.wanted(buffer).0.number)] += 1;
+    }
+
+    pub fn add_input(&mut self, family: &'static str, input: &[u8], said: &Said) {
+        let (outcome, answer) = said.wanted(usize::MAX);
+        self.inputs += 1;
+        self.families.entry(family).or_default()[usize::from(outcome.number)] += 1;
+        if outcome.number == 0 {
+            self.add_answer(input, answer, said.is_bag(), outcome.pops);
+        } else {
+            let places = self.places.entry(outcome.number).or_default();
+            places.insert(outcome.place);
+        }
+    }
+
+    fn count(&mut self, order: usize, name: impl Into<String>, more: usize) {
+        *self.counts.entry((order, name.into())).or_default() += more;
+    }
+
+    fn add_answer(&mut self, input: &[u8], answer: &[u8], bag: bool, pops: usize) {
+        let wires = |bytes| records(bytes).filter(|record| record[0] == kind::WIRE);
+        let before: HashSet<&[u8]> = wires(input).collect();
+        let fresh = wires(answer).filter(|wire| !before.contains(wire)).count();
+        for record in records(answer).filter(|record| record[0] != kind::WIRE) {
+            self.add_node(input, record);
+        }
+        self.count(9, "wires of the inputs", wires(input).count());
+        self.count(10, "wires of the answers", wires(answer).count());
+        self.count(11, "of them at a new source or target", fresh);
+        self.count(12, "pops", pops);
+        if bag {
+            self.count(13, "answers held as bags of wires", 1);
+        }
+    }
+
+    /// Counts a known value or a fate.
+    fn add_node(&mut self, input: &[u8], record: &[u8]) {
+        let node = usize::from(u16::from_le_bytes([record[1], record[2]]));
+        let class = input[3 * node + 1];
+        let variant = |first: u8| VARIANT_NAMES[usize::from(record[0] - first) + 1];
+        match record[0] {
+            kind::KEPT => self.count(3, "kept nodes", 1),
+            kind::REMOVED if class == class::SELECT => self.count(4, "removed Selects", 1),
+            kind::REMOVED => self.count(5, "removed Branches", 1),
+            kind::LITERAL_INT.. => {
+                self.count(6, format!("literals, {}", variant(kind::LITERAL_INT)), 1);
+                *self.literals.entry(class).or_default() += 1;
+            }
+            _ => self.count(2, format!("known values, {}", variant(kind::INT)), 1),
+        }
+    }
+
+    pub fn print(&self) {
+        self.print_families();
+        let mut table = Table::new(&["outcome", "folds", "different places"]);
+        for (number, &folds) in self
+            .folds
+            .iter()
+            .enumerate()
+            .filter(|(_, folds)| **folds > 0)
+        {
+            let places = self.places.get(&(number as u8)).map_or(0, HashSet::len);
+            let name = match number {
+                0 => "accepted".to_string(),
+                _ => format!("refused {number}"),
+            };
+            table.row(vec![name, whole(folds), whole(places)]);
+        }
+        table.print("Folds, each of an input and a length of buffer");
+        let mut table = Table::new(&["what", "count"]);
+        for ((_, name), &count) in &self.counts {
+            table.row(vec![name.clone(), whole(count)]);
+        }
+        table.print("In the accepted answers");
+        let mut table = Table::new(&["class", "planned literals"]);
+        for (class, name) in (0..)
+            .zip(CLASS_NAMES)
+            .skip(usize::from(class::COMPARE_EQUAL))
+        {
+            let count = self.literals.get(&class).copied().unwrap_or(0);
+            table.row(vec![name.to_string(), whole(count)]);
+        }
+        table.print("Literals by class");
+    }
+
+    fn print_families(&self) {
+        let numbers: Vec<String> = (1..=10).map(|number| number.to_string()).collect();
+        let mut heads = vec!["inputs", "all", "accepted"];
+        heads.extend(numbers.iter().map(String::as_str));
+        let mut table = Table::new(&heads);
+        let mut sums = ByNumber::default();
+        let cells = |name: &str, counts: &ByNumber| {
+            let mut cells = vec![name.to_string(), whole(counts.iter().sum())];
+            cells.extend(counts[..11].iter().map(|&count| whole(count)));
+            cells
+        };
+        for (family, counts) in &self.families {
+            table.row(cells(family, counts));
+            for (sum, count) in sums.iter_mut().zip(counts) {
+                *sum += count;
+            }
+        }
+        table.row(cells("all", &sums));
+        table.print("Inputs by outcome, accepted or the refusal's number");
+    }
+
+    pub fn fold_count(&self) -> usize {
+        self.folds.iter().sum()
+    }
+}
