@@ -1,5 +1,5 @@
 //! Copies of graphs with something wrong or odd in them.
-use crate::records::Graph;
+use crate::records::{Graph, kind};
 use crate::rng::Rng;
 
 /// The bytes of a graph with one to three damages.
@@ -20,7 +20,7 @@ pub fn damaged(rng: &mut Rng, graph: &Graph) -> Vec<u8> {
 fn damage_records(rng: &mut Rng, records: &mut Vec<Vec<u8>>) {
     let at = rng.below(records.len());
     let other = rng.below(records.len());
-    match rng.below(7) {
+    match rng.below(8) {
         0 => {
             let next = (at + 1) % records.len();
             records.swap(at, next);
@@ -35,6 +35,7 @@ fn damage_records(rng: &mut Rng, records: &mut Vec<Vec<u8>>) {
             records.insert(other.min(records.len()), moved);
         }
         4 => _ = records.remove(at),
+        6 => repeat_property(rng, records),
         5 => records.insert(at, vec![rng.below(16) as u8]),
         _ => {
             let record = &mut records[at];
@@ -42,6 +43,25 @@ fn damage_records(rng: &mut Rng, records: &mut Vec<Vec<u8>>) {
             record[byte] = rng.below(48) as u8;
         }
     }
+}
+
+/// Puts a copy of a property or annihilator behind it, at times a Bool of the same node and port.
+fn repeat_property(rng: &mut Rng, records: &mut Vec<Vec<u8>>) {
+    let repeatable = |record: &[u8]| record[0] >= kind::INT && record[0] != kind::ROW;
+    let places: Vec<usize> = (0..records.len())
+        .filter(|&at| repeatable(&records[at]))
+        .collect();
+    if places.is_empty() {
+        return;
+    }
+    let at = rng.pick(&places);
+    let mut copy = records[at].clone();
+    if copy[0] < kind::BOOL && rng.percent(50) {
+        copy.truncate(4);
+        copy[0] = kind::BOOL;
+        copy.push(0);
+    }
+    records.insert(at + 1, copy);
 }
 
 fn damage_bytes(rng: &mut Rng, bytes: &mut Vec<u8>) {
