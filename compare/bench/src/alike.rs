@@ -61,6 +61,18 @@ fn normal(answer: &[u8], zeros_alike: bool) -> Vec<u8> {
     normal
 }
 
+/// The answer with every NaN in one form.
+pub fn normal_nans(answer: &[u8]) -> Vec<u8> {
+    normal(answer, false)
+}
+
+/// Whether the sign of a zero in the answer to an input may be either.
+pub fn open_zeros(input: &[u8], answer: &[u8]) -> bool {
+    let is_zero = |bytes: &[u8; 8]| u64::from_le_bytes(*bytes) & !SIGN == 0;
+    let has_zero = |record: &[u8]| record[floats(record)].as_chunks().0.iter().any(is_zero);
+    zeros_alike(input) && records(answer).any(has_zero)
+}
+
 /// Whether two answers to an input are the same but for what counts alike.
 pub fn alike(input: &[u8], x: &[u8], y: &[u8]) -> bool {
     let zeros = zeros_alike(input);

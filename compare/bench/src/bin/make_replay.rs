@@ -1,0 +1,99 @@
+//! Writes folds with what the oracle says of them, which the program crates/replay runs, to standard output.
+//!
+//!     make_replay ORACLE
+//!
+//! Inputs of a fixed seed are taken from the front as long as their bucket, of family and outcome, has room, and a few
+//! at the limits. NaNs are written 7FF8000000000000. Left out are long inputs, answers that are bags of wires, and
+//! graphs of classes 26 to 28 whose answer has a zero, as the Rust leaves its sign open. A case is what
+//! crates/replay/src/main.rt reads.
+use bench::alike::{normal_nans, open_zeros};
+use bench::families;
+use bench::held::{BUFFER, buffers};
+use bench::oracle::{Oracle, Said};
+use bench::records::limit;
+use bench::shapes;
+use std::collections::BTreeMap;
+use std::io::{Write, stdout};
+use std::process::ExitCode;
+
+const SEED: u64 = 7_003;
+const INPUTS: u64 = 60_000;
+const BATCH: u64 = 500;
+const LONGEST: usize = 300;
+
+/// How many cases a bucket takes.
+fn room(family: &str, number: u8) -> usize {
+    match (family, number) {
+        (_, 1..=10) => 90,
+        ("gates", _) => 1_000,
+        ("mixed" | "routes", _) => 400,
+        _ => 150,
+    }
+}
+
+/// A case, with a buffer of this length.
+fn case(input: &[u8], said: &Said, buffer: usize) -> Vec<u8> {
+    let (outcome, answer) = said.wanted(buffer);
+    let numbers = [
+        input.len(),
+        buffer,
+        usize::from(outcome.number),
+        outcome.place,
+        outcome.length,
+        outcome.pops,
+    ];
+    let mut case: Vec<u8> = numbers.iter().flat_map(|n| n.to_le_bytes()).collect();
+    case.extend(input);
+    case.extend(normal_nans(answer));
+    case
+}
+
+fn taken(input: &[u8], said: &Said) -> bool {
+    let (_, answer) = said.wanted(BUFFER);
+    input.len() <= LONGEST && !said.is_bag() && !open_zeros(input, answer)
+}
+
+/// Cases at random, a bucket for each family and outcome.
+fn random_cases(oracle: &mut Oracle, cases: &mut Vec<Vec<u8>>) {
+    let mut buckets: BTreeMap<(&str, u8), usize> = BTreeMap::new();
+    for start in (0..INPUTS).step_by(BATCH as usize) {
+        let batch: Vec<_> = (start..start + BATCH)
+            .map(|index| families::input(SEED, index))
+            .collect();
+        let inputs: Vec<&[u8]> = batch.iter().map(|(_, input)| &input[..]).collect();
+        let said = oracle.ask(&inputs).expect("the oracle answers all");
+        for ((family, input), said) in batch.iter().zip(said) {
+            let lengths = buffers(&said, false);
+            let buffer = lengths[cases.len() % lengths.len()];
+            let number = said.wanted(buffer).0.number;
+            let taken_before = buckets.entry((family, number)).or_default();
+            if *taken_before < room(family, number) && taken(input, &said) {
+                *taken_before += 1;
+                cases.push(case(input, &said, buffer));
+            }
+        }
+    }
+}
+
+/// Inputs at and past the limits, each into the program's buffer; of those that are no records, one.
+fn limit_cases(oracle: &mut Oracle, cases: &mut Vec<Vec<u8>>) {
+    let limits = shapes::limits().into_iter();
+    for input in limits.filter(|input| input.len() != limit::INPUT) {
+        let said = oracle.ask_one(&input).expect("the oracle answers all");
+        cases.push(case(&input, &said, BUFFER));
+    }
+}
+
+fn main() -> ExitCode {
+    let Some(program) = std::env::args().nth(1) else {
+        eprintln!("usage: make_replay ORACLE");
+        return ExitCode::from(2);
+    };
+    let mut oracle = Oracle::start(&program);
+    let mut cases = Vec::new();
+    random_cases(&mut oracle, &mut cases);
+    limit_cases(&mut oracle, &mut cases);
+    eprintln!("{}", cases.len());
+    let written = stdout().write_all(&cases.concat());
+    written.map_or(ExitCode::FAILURE, |()| ExitCode::SUCCESS)
+}

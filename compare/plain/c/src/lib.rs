@@ -1,0 +1,29 @@
+//! The plain folder as `mezburiko_fold`.
+use std::slice;
+
+/// # Safety
+/// `input` and `out` are so many bytes that do not overlap, and the others each one number.
+#[unsafe(no_mangle)]
+pub unsafe extern "C" fn mezburiko_fold(
+    input: *const u8,
+    input_length: usize,
+    out: *mut u8,
+    out_length: usize,
+    place: &mut usize,
+    length: &mut usize,
+    pops: &mut usize,
+) -> u8 {
+    // SAFETY: the caller's.
+    let (input, out) = unsafe {
+        (
+            slice::from_raw_parts(input, input_length),
+            slice::from_raw_parts_mut(out, out_length),
+        )
+    };
+    let number;
+    (number, *place, *length, *pops) = match plain::fold(input, out) {
+        Ok((length, pops)) => (0, 0, length, pops),
+        Err((number, place)) => (number, place, 0, 0),
+    };
+    number
+}
