@@ -6,7 +6,6 @@ use std::ops::Range;
 const NAN: u64 = 0x7FF8_0000_0000_0000;
 const INFINITY: u64 = 0x7FF0_0000_0000_0000;
 const SIGN: u64 = 1 << 63;
-const WIRE: usize = RECORD_LENGTHS[kind::WIRE as usize];
 
 /// The length of a record of this kind.
 pub fn record_length(kind: u8) -> Option<usize> {
@@ -79,38 +78,22 @@ pub fn alike(input: &[u8], x: &[u8], y: &[u8]) -> bool {
     x == y || normal(x, zeros) == normal(y, zeros)
 }
 
-/// Where the wires of an answer start.
-pub fn wires_start(answer: &[u8]) -> usize {
-    let others = records(answer).take_while(|record| record[0] != kind::WIRE);
-    others.map(<[u8]>::len).sum()
-}
+/// The parts of an answer, each in the form in which it is compared.
+pub const PARTS: [&str; 3] = ["known values", "fates", "wires"];
 
-/// `alike` for wires in any order.
-pub fn alike_as_bag(input: &[u8], x: &[u8], y: &[u8]) -> bool {
-    let ((nodes_x, wires_x), (nodes_y, wires_y)) =
-        (x.split_at(wires_start(x)), y.split_at(wires_start(y)));
-    let sorted = |wires: &[u8]| {
-        let mut wires: Vec<Vec<u8>> = wires.chunks(WIRE).map(<[u8]>::to_vec).collect();
-        wires.sort_unstable();
-        wires
-    };
-    alike(input, nodes_x, nodes_y) && sorted(wires_x) == sorted(wires_y)
-}
-
-/// What an answer's record is part of.
-fn part(record: &[u8]) -> &'static str {
-    match record[0] {
-        kind::WIRE => "wires",
-        kind::KEPT.. => "fates",
-        _ => "known values",
+/// The parts of an answer to an input; wires in number order where the answer is a bag.
+pub fn parts(input: &[u8], answer: &[u8], bag: bool) -> [Vec<Vec<u8>>; 3] {
+    let mut parts = [const { Vec::new() }; 3];
+    for record in records(&normal(answer, zeros_alike(input))) {
+        let part = match record[0] {
+            kind::WIRE => 2,
+            kind::KEPT.. => 1,
+            _ => 0,
+        };
+        parts[part].push(record.to_vec());
     }
-}
-
-/// The part of an answer in which another differs first.
-pub fn differing_part(input: &[u8], wanted: &[u8], got: &[u8]) -> &'static str {
-    let zeros = zeros_alike(input);
-    let (wanted, got) = (normal(wanted, zeros), normal(got, zeros));
-    let mut pairs = records(&wanted).zip(records(&got));
-    let first = pairs.find(|(wanted, got)| wanted != got);
-    first.map_or("wires", |(wanted, _)| part(wanted))
+    if bag {
+        parts[2].sort_unstable();
+    }
+    parts
 }

@@ -1,5 +1,5 @@
 //! Holds a folder to what the oracle says: the four numbers, the answer, and every other byte of the buffer.
-use crate::alike::{alike, alike_as_bag, differing_part};
+use crate::alike::{PARTS, alike, parts};
 use crate::folders::{Fold, Outcome};
 use crate::oracle::Said;
 use crate::records::limit;
@@ -34,14 +34,14 @@ fn run(fold: Fold, input: &[u8], out: &mut [u8]) -> Option<Outcome> {
     outcome.ok()
 }
 
-/// Lengths of the buffer to try: what the answer needs, one byte less, none, and more; for a refusal, some and none.
-/// `wide` adds the program's.
+/// Lengths of the buffer to try: more than the answer needs, what it needs, one byte less, and none; for a refusal, some
+/// and none. `wide` adds the program's.
 pub fn buffers(said: &Said, wide: bool) -> Vec<usize> {
-    let mut buffers = match said.needed() {
-        Some(needed) => vec![needed, needed.saturating_sub(1), 0, needed + 13],
-        None => vec![100, 0],
-    };
-    buffers.extend(wide.then_some(BUFFER));
+    let mut buffers: Vec<usize> = wide.then_some(BUFFER).into_iter().collect();
+    match said.needed() {
+        Some(needed) => buffers.extend([needed + 13, needed, needed.saturating_sub(1), 0]),
+        None => buffers.extend([100, 0]),
+    }
     buffers.dedup();
     buffers
 }
@@ -49,10 +49,10 @@ pub fn buffers(said: &Said, wide: bool) -> Vec<usize> {
 /// How a folder differs from the oracle on an input, for one length of buffer.
 pub struct Difference {
     pub buffer: usize,
-    /// What is seen to differ first.
-    pub what: &'static str,
+    /// What differs.
+    pub what: Vec<&'static str>,
     pub wanted: (Outcome, Vec<u8>),
-    /// `None` where the folder panics. The bytes are as many as wanted, or as many as it says if that is more.
+    /// `None` where the folder panics. The bytes are the answer that it says.
     pub got: Option<(Outcome, Vec<u8>)>,
 }
 
@@ -86,66 +86,86 @@ impl Paint {
         let (wanted, bytes) = said.wanted(buffer);
         let end = MARGIN + buffer;
         let outcome = run(fold, input, &mut self.memory[MARGIN..end]);
-        let what = match outcome {
-            None => Some("it panics"),
-            Some(outcome) => differing_number(wanted, outcome)
-                .or_else(|| self.differing_bytes(input, said, bytes, buffer)),
+        let answer = &self.memory[MARGIN..][..bytes.len()];
+        let same = outcome == Some(wanted)
+            && (alike(input, bytes, answer) || same_bag(input, said, bytes, answer))
+            && self.is_painted(MARGIN + bytes.len(), end + MARGIN)
+            && self.is_painted(0, MARGIN);
+        let difference = (!same).then(|| self.describe(input, said, buffer, outcome));
+        let touched = if same {
+            MARGIN..end
+        } else {
+            0..self.clean.len()
         };
-        let difference = what.map(|what| {
-            let got = outcome.map(|outcome| {
-                let length = bytes.len().max(outcome.length.min(buffer));
-                (outcome, self.memory[MARGIN..MARGIN + length].to_vec())
-            });
-            Difference {
-                buffer,
-                what,
-                wanted: (wanted, bytes.to_vec()),
-                got,
-            }
-        });
-        self.repaint(end, difference.is_some());
+        self.memory[touched.clone()].copy_from_slice(&self.clean[touched]);
         difference
     }
 
-    fn differing_bytes(
+    fn is_painted(&self, from: usize, to: usize) -> bool {
+        self.memory[from..to] == self.clean[from..to]
+    }
+
+    fn describe(
         &self,
         input: &[u8],
         said: &Said,
-        wanted: &[u8],
         buffer: usize,
-    ) -> Option<&'static str> {
-        let answer_end = MARGIN + wanted.len();
-        let answer = &self.memory[MARGIN..answer_end];
-        let same = match said.is_bag() {
-            true => alike_as_bag(input, wanted, answer),
-            false => alike(input, wanted, answer),
+        outcome: Option<Outcome>,
+    ) -> Difference {
+        let (wanted, bytes) = said.wanted(buffer);
+        let got = outcome.map(|outcome| {
+            let length = outcome.length.min(buffer);
+            (outcome, self.memory[MARGIN..MARGIN + length].to_vec())
+        });
+        let what = match &got {
+            None => vec!["it panics"],
+            Some((outcome, answer)) => {
+                let mut what = differing_numbers(wanted, *outcome);
+                if (wanted.number, outcome.number) == (0, 0) {
+                    what.extend(differing_parts(input, bytes, answer, said.is_bag()));
+                }
+                what.extend(self.touched(answer.len(), buffer));
+                what
+            }
         };
-        if !same {
-            return Some(differing_part(input, wanted, answer));
-        }
-        let untouched = |from: usize, to: usize| self.memory[from..to] == self.clean[from..to];
-        let end = MARGIN + buffer;
-        if !untouched(answer_end, end) {
-            Some("bytes of the buffer past the answer")
-        } else if !untouched(0, MARGIN) || !untouched(end, end + MARGIN) {
-            Some("bytes around the buffer")
-        } else {
-            None
+        Difference {
+            buffer,
+            what,
+            wanted: (wanted, bytes.to_vec()),
+            got,
         }
     }
 
-    /// Paints what a fold may have touched, or all.
-    fn repaint(&mut self, end: usize, all: bool) {
-        let part = if all {
-            0..self.clean.len()
-        } else {
-            MARGIN..end
-        };
-        self.memory[part.clone()].copy_from_slice(&self.clean[part]);
+    /// What is touched of the memory that should not be.
+    fn touched(&self, answer: usize, buffer: usize) -> Vec<&'static str> {
+        let end = MARGIN + buffer;
+        let mut touched = Vec::new();
+        if !self.is_painted(MARGIN + answer, end) {
+            touched.push("the buffer past the answer");
+        }
+        if !self.is_painted(0, MARGIN) || !self.is_painted(end, end + MARGIN) {
+            touched.push("bytes around the buffer");
+        }
+        touched
     }
 }
 
-fn differing_number(wanted: Outcome, got: Outcome) -> Option<&'static str> {
+fn same_bag(input: &[u8], said: &Said, x: &[u8], y: &[u8]) -> bool {
+    said.is_bag() && parts(input, x, true) == parts(input, y, true)
+}
+
+fn differing_parts(
+    input: &[u8],
+    wanted: &[u8],
+    got: &[u8],
+    bag: bool,
+) -> impl Iterator<Item = &'static str> {
+    let (wanted, got) = (parts(input, wanted, bag), parts(input, got, bag));
+    let pairs = wanted.into_iter().zip(got).zip(PARTS);
+    pairs.filter_map(|((wanted, got), name)| (wanted != got).then_some(name))
+}
+
+fn differing_numbers(wanted: Outcome, got: Outcome) -> Vec<&'static str> {
     let numbers = [
         (
             "number",
@@ -156,6 +176,6 @@ fn differing_number(wanted: Outcome, got: Outcome) -> Option<&'static str> {
         ("length", wanted.length, got.length),
         ("pops", wanted.pops, got.pops),
     ];
-    let first = numbers.into_iter().find(|(_, wanted, got)| wanted != got);
-    first.map(|(name, _, _)| name)
+    let differing = numbers.into_iter().filter(|(_, wanted, got)| wanted != got);
+    differing.map(|(name, _, _)| name).collect()
 }

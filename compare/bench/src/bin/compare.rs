@@ -168,7 +168,7 @@ impl Comparison {
 fn print_difference(input: &[u8], difference: &Difference) {
     println!("  input   {}", hex(input));
     println!("  buffer  {} bytes", difference.buffer);
-    println!("  differs {}", difference.what);
+    println!("  differs {}", difference.what.join(", "));
     let answer = |name: &str, (outcome, bytes): &(Outcome, Vec<u8>)| {
         let Outcome {
             number,
