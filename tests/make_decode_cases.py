@@ -3,8 +3,12 @@
 
 A case is eight little-endian numbers of eight bytes (the input's length, the refusal's number and place, the counts of nodes, wires,
 properties, rows and annihilators) and then the input. The last line on standard error is the number of cases."""
+import pathlib
 import struct
 import sys
+
+sys.path.insert(0, str(pathlib.Path(__file__).resolve().parent.parent / 'tools'))
+from mezburiko import tables  # noqa: E402
 
 cases = []
 
@@ -59,14 +63,14 @@ accept(b"")
 accept(WORKED, 3, 2, 2, 1, 0)
 accept(ALL, 3, 2, 7, 2, 2)
 # every cut of a valid graph: the record that the cut falls into, or the shorter graph
-at, counts, roles = 0, [0] * 5, {1: 0, 2: 1, **{k: 2 for k in range(3, 10)}, 10: 3, 11: 4}
-sizes = {1: 3, 2: 7, 3: 12, 4: 12, 5: 5, 6: 28, 7: 28, 8: 36, 9: 36, 10: 5, 11: 2}
+at, counts, roles = 0, [0] * 5, ('Node', 'Wire', 'Property', 'Row', 'Annihilator')
 while at < len(ALL):
-    size = sizes[ALL[at]]
+    kind = tables.GRAPH_KINDS[ALL[at]]
+    size = kind.length
     accept(ALL[:at], *counts)
     for cut in range(1, size):
         refuse(ALL[:at + cut], 3, at)
-    counts[roles[ALL[at]]] += 1
+    counts[roles.index(kind.role)] += 1
     at += size
 # 2: no kind
 for kind in (0, 12, 16, 255):

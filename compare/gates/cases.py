@@ -8,12 +8,14 @@ import math
 import pathlib
 import struct
 import subprocess
+import sys
 
 ROOT = pathlib.Path(__file__).resolve().parent.parent.parent
+sys.path.insert(0, str(ROOT / 'tools'))
+from mezburiko import tables  # noqa: E402
+
 ORACLE = ROOT / 'compare' / 'oracle' / 'target' / 'release' / 'oracle'
 CASE, ANSWER = 100, 33
-UNARY = (15, 23, 24, 25, 30, 31, 32, 36, 41)
-TERNARY = (28,)
 # Min, Max and Clamp, where the Rust leaves the sign of a zero open.
 OPEN_ZEROS = (26, 27, 28)
 FLOATS = {2: 1, 4: 3, 5: 3, 6: 4, 7: 4}
@@ -51,10 +53,14 @@ OPERANDS = (
 )
 
 
+def input_count(gate):
+    return len(tables.CLASSES[gate].folding.inputs)
+
+
 def every():
     """Every class on every one, pair or triple of the operands."""
-    for gate in range(6, 42):
-        count = 1 if gate in UNARY else 3 if gate in TERNARY else 2
+    for gate in range(6, len(tables.CLASSES)):
+        count = input_count(gate)
         for chosen in itertools.product(OPERANDS, repeat=count):
             yield bytes([gate]) + b''.join(chosen) + UNWIRED * (3 - count)
 

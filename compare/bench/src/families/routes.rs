@@ -214,7 +214,8 @@ pub fn doubling(rng: &mut Rng) -> Graph {
     reordered(rng, graph)
 }
 
-/// Wires into a Branch that takes some targets, and others, with 4,095 to 4,098 at the end.
+/// Wires into a Branch that takes some targets, and others, with 4,095 to 4,098 at the end; at times one of them goes
+/// round in a cycle.
 pub fn products(rng: &mut Rng) -> Graph {
     let wanted = limit::ANSWER_WIRES - 1 + rng.below(4);
     let entries = rng.between(2, 120);
@@ -230,9 +231,13 @@ pub fn products(rng: &mut Rng) -> Graph {
         graph.wire((branch, port::EXEC_OUT_B), (1, port::EXEC));
     }
     let others = wanted - entries * targets;
-    let free = limit::WIRES - entries - targets;
+    let free = limit::WIRES - entries - targets - 1;
     for _ in 0..others.min(free) {
         graph.wire((0, port::OUTPUT), (1, rng.below(10) as u8));
+    }
+    if rng.percent(20) {
+        let looped = graph.node(class::BRANCH);
+        graph.wire((looped, port::EXEC_OUT_B), (looped, port::EXEC));
     }
     reordered(rng, graph)
 }
