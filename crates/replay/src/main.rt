@@ -20,8 +20,18 @@ const LONGEST: usize = 65537;
 const PAINT: u8 = 165;
 
 // None where the fold has these numbers and leaves these bytes in the buffer, else one.
-fn differs(input: &[u8], out: &mut [u8], wanted: &[u8], number: u8, place: usize, length: usize, pops: usize) -> u64
-    ensures { λ r. ⌜ (r ≤ 1) × (r ≡ 0 → (record { number = number; place = place; length = length; pops = pops } ≡ numbersOf (outcome (now (input .entry)) (ListN.length (now (out .entry))))) × (now (wanted .entry) ≡ written (outcome (now (input .entry)) (ListN.length (now (out .entry)))) (now (out .entry)))) ⌝ }
+fn differs(
+    input: &[u8],
+    out: &mut [u8],
+    wanted: &[u8],
+    number: u8,
+    place: usize,
+    length: usize,
+    pops: usize,
+) -> u64
+    ensures one { λ r. ⌜ r ≤ 1 ⌝ }
+    ensures numbers { λ r. ⌜ (r ≡ 0 → record { number = number; place = place; length = length; pops = pops } ≡ numbersOf (outcome (now (input .entry)) (ListN.length (now (out .entry))))) ⌝ }
+    ensures buffer { λ r. ⌜ (r ≡ 0 → now (wanted .entry) ≡ written (outcome (now (input .entry)) (ListN.length (now (out .entry)))) (now (out .entry))) ⌝ }
 {
     let mut at: usize = 0;
     let mut bytes: usize = 0;

@@ -17,25 +17,25 @@ same-length : tie.Need-same-length
 same-length c = search needs
 
 returns : tie.Need-returns
-returns c = (omega arith, λ e. absurd (omega arith))
+returns c = (omega arith, (λ e. absurd (omega arith), λ e. absurd (omega arith)))
 
 same-length-2 : tie.Need-same-length-2
 same-length-2 c = search needs
 
 returns-2 : tie.Need-returns-2
-returns-2 c = (omega arith, λ e. absurd (omega arith))
+returns-2 c = (omega arith, (λ e. absurd (omega arith), λ e. absurd (omega arith)))
 
 same-length-3 : tie.Need-same-length-3
 same-length-3 c = search needs
 
 returns-3 : tie.Need-returns-3
-returns-3 c = (omega arith, λ e. absurd (omega arith))
+returns-3 c = (omega arith, (λ e. absurd (omega arith), λ e. absurd (omega arith)))
 
 same-length-4 : tie.Need-same-length-4
 same-length-4 c = search needs
 
 returns-4 : tie.Need-returns-4
-returns-4 c = (omega arith, λ e. absurd (omega arith))
+returns-4 c = (omega arith, (λ e. absurd (omega arith), λ e. absurd (omega arith)))
 
 same-requires : tie.Need-same-requires
 same-requires c κs = search needs
@@ -44,13 +44,19 @@ same-length-5 : tie.Need-same-length-5
 same-length-5 c = search needs
 
 returns-5 : tie.Need-returns-5
-returns-5 c = (omega arith, λ e. (same-numbers (c .before .before .before .before .before .before .if1 .left) (c .before .before .before .before .before .if2 .left) (c .before .before .before .before .if3 .left) (c .before .before .before .if4 .left) ∙ c .before .before .before .before .before .before .before .before .before .mezburiko-fold .ensures .0, sym (c .before .same .ensures .0 (c .if5 .taken)) ∙ c .before .before .before .before .before .before .before .before .before .mezburiko-fold .ensures .1))
+returns-5 c = (
+  omega arith,
+  (
+    λ e. same-numbers (c .before .before .before .before .before .before .if1 .left) (c .before .before .before .before .before .if2 .left) (c .before .before .before .before .if3 .left) (c .before .before .before .if4 .left) ∙ c .before .before .before .before .before .before .before .before .before .mezburiko-fold .ensures .0,
+    λ e. sym (c .before .same .ensures .0 (c .if5 .taken)) ∙ c .before .before .before .before .before .before .before .before .before .mezburiko-fold .ensures .1,
+  ),
+)
 
 same-length-6 : tie.Need-same-length-6
 same-length-6 c = search needs
 
 returns-6 : tie.Need-returns-6
-returns-6 c = (omega arith, λ e. absurd (omega arith))
+returns-6 c = (omega arith, (λ e. absurd (omega arith), λ e. absurd (omega arith)))
 
 pub differs-spec : {M : Type 1} → statement M
 differs-spec =
