@@ -34,8 +34,8 @@ fn run(fold: Fold, input: &[u8], out: &mut [u8]) -> Option<Outcome> {
     outcome.ok()
 }
 
-/// Lengths of the buffer to try: more than the answer needs, what it needs, one byte less, and none; for a refusal, some
-/// and none. `wide` adds the program's.
+/// Lengths of the buffer to try: more than the answer needs, what it needs, one byte less, and none;
+/// for a refusal, some and none. `wide` adds the program's.
 pub fn buffers(said: &Said, wide: bool) -> Vec<usize> {
     let mut buffers: Vec<usize> = wide.then_some(BUFFER).into_iter().collect();
     match said.needed() {

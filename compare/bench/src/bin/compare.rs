@@ -15,7 +15,7 @@ use bench::shrink;
 use bench::tally::Tally;
 use std::collections::BTreeMap;
 use std::process::ExitCode;
-use std::sync::mpsc::{SyncSender, sync_channel};
+use std::sync::mpsc::{Receiver, SyncSender, sync_channel};
 use std::thread;
 
 const BATCH: usize = 500;
@@ -201,16 +201,32 @@ fn run(program: &str, count: u64, seed: u64) -> bool {
     let mut comparison = Comparison::new();
     let mut progress = Progress::default();
     let (sender, receiver) = sync_channel(4);
-    let oracle = program.to_string();
-    thread::spawn(move || ask(&oracle, cases(count, seed), &sender));
+    let alike = thread::scope(|scope| {
+        scope.spawn(move || ask(program, cases(count, seed), &sender));
+        hold(&mut comparison, receiver, &mut progress, total)
+    });
+    progress.clear();
+    if alike {
+        comparison.print(seed, &progress);
+    } else {
+        comparison.report(program);
+    }
+    alike && comparison.tally.inputs == total
+}
+
+/// Adds what the oracle says, batch by batch, to the comparison; whether no folder differs, and the oracle goes on.
+fn hold(
+    comparison: &mut Comparison,
+    receiver: Receiver<Asked>,
+    progress: &mut Progress,
+    total: usize,
+) -> bool {
     for asked in receiver {
         let batch = match asked {
             Ok(batch) => batch,
             Err(Case { family, input }) => {
-                println!(
-                    "the oracle ends on an input from '{family}': {}",
-                    hex(&input)
-                );
+                let input = hex(&input);
+                println!("the oracle ends on an input from '{family}': {input}");
                 return false;
             }
         };
@@ -219,14 +235,10 @@ fn run(program: &str, count: u64, seed: u64) -> bool {
         }
         progress.tell(comparison.tally.inputs, total);
         if !comparison.alike() {
-            progress.clear();
-            comparison.report(program);
             return false;
         }
     }
-    progress.clear();
-    comparison.print(seed, &progress);
-    comparison.tally.inputs == total
+    true
 }
 
 fn main() -> ExitCode {
