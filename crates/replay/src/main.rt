@@ -19,6 +19,9 @@ const LONGEST: usize = 65537;
 // What the buffer has before the fold.
 const PAINT: u8 = 165;
 
+// What place, length and pops are before it: no outcome has this number, so one that is not written shows.
+const UNSET: usize = 1000000;
+
 // None where the fold has these numbers and leaves these bytes in the buffer, else one.
 fn differs(
     input: &[u8],
@@ -33,9 +36,9 @@ fn differs(
     ensures numbers { λ r. ⌜ (r ≡ 0 → record { number = number; place = place; length = length; pops = pops } ≡ numbersOf (outcome (now (input .entry)) (ListN.length (now (out .entry))))) ⌝ }
     ensures buffer { λ r. ⌜ (r ≡ 0 → now (wanted .entry) ≡ written (outcome (now (input .entry)) (ListN.length (now (out .entry)))) (now (out .entry))) ⌝ }
 {
-    let mut at: usize = 0;
-    let mut bytes: usize = 0;
-    let mut turns: usize = 0;
+    let mut at = UNSET;
+    let mut bytes = UNSET;
+    let mut turns = UNSET;
     let given = folding::mezburiko_fold(input, out, &mut at, &mut bytes, &mut turns);
     if given != number {
         return 1;
