@@ -234,17 +234,20 @@ def _rust_array(name, doc, element, items):
     return lines + ['    %s,' % item for item in items] + ['];']
 
 
+def _bytes(table):
+    return [(entry.constant, 'u8', entry.number) for entry in table]
+
+
 def _quoted(text):
     return '"%s"' % text
 
 
 def _rust_modules():
     kinds = [*GRAPH_KINDS.values(), *FATE_KINDS.values()]
-    byte = lambda table: [(entry.constant, 'u8', entry.number) for entry in table]
-    yield _rust_module('kind', 'Kinds of records, of a graph and of an answer.', byte(kinds), '0x{:02X}')
-    yield _rust_module('class', 'Classes of nodes.', byte(CLASSES))
-    yield _rust_module('port', 'Ports.', byte(PORTS))
-    yield _rust_module('variant', 'Variants of operands.', byte(VARIANTS))
+    yield _rust_module('kind', 'Kinds of records, of a graph and of an answer.', _bytes(kinds), '0x{:02X}')
+    yield _rust_module('class', 'Classes of nodes.', _bytes(CLASSES))
+    yield _rust_module('port', 'Ports.', _bytes(PORTS))
+    yield _rust_module('variant', 'Variants of operands.', _bytes(VARIANTS))
     yield _rust_module('flag', 'Bits of the flags byte, and all that are listed.',
                        [(name, 'u8', bit) for name, bit in FLAGS.items()] + [('LISTED', 'u8', LISTED_FLAGS)])
     yield _rust_module('limit', 'What a graph and its answer have at most.',
