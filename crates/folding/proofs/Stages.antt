@@ -15,7 +15,9 @@ use Rattle.graph.specs.Graph.{Graph, countsOf}
 use Rattle.graph.specs.Decode.{Verdict, accepted, refused, decode, graphOf}
 use Rattle.graph.specs.Refusals.{counts, refusal, reported}
 use Rattle.graph.specs.declared.Counts.{Counts}
-use Rattle.records.specs.Access.{Accepts, Bounded, rowsOf}
+use Rattle.records.specs.Access.{Accepts, Bounded}
+use Rattle.graph.specs.declared.Row.{Row}
+use Rattle.table.specs.Table.{Cells}
 use Rattle.records.proofs.Laid.{counted, bounded, few-nodes}
 use Rattle.resolve.specs.Reads.{Reads}
 use Rattle.model.specs.Maps.{Map, isSome}
@@ -176,15 +178,15 @@ pub bounded-at : (input : List ℕ) (c : Counts) {vs : List Wire} → Accepts in
 unfolding size
 bounded-at input c a f = subst₂ (λ (m : ℕ) (us : List Wire). Bounded us m) (sym (nodes-are input c a)) (sym f) (bounded input)
 
-pub reads-at : {input : List ℕ} {c : Counts} {table wires feedsFirst feedsNext first next rows : List ℕ} → Indexes input c table wires feedsFirst feedsNext first next → rowsOf rows ≡ graphOf input .rows → Reads (graphOf input) c input table wires rows feedsFirst feedsNext
+pub reads-at : {input : List ℕ} {c : Counts} {table wires feedsFirst feedsNext first next : List ℕ} {rs : List Row} {rows : List Bool} → Indexes input c table wires feedsFirst feedsNext first next → rs ≡ graphOf input .rows → Cells rs rows → Reads (graphOf input) c input table wires rows feedsFirst feedsNext
 unfolding size
-reads-at {input} {c} X e =
+reads-at {input} {c} {rows = rows} X e h =
     record {
       graph = refl;
       counts = counted input c (X .accepts);
       properties = X .properties;
       wires-part = X .wires-part;
-      rows-part = e;
+      row-cells = subst (λ (qs : List Row). Cells qs rows) e h;
       bounded = bounded input;
       feeds = X .feeds;
     }

@@ -8,6 +8,7 @@ use ir::limit;
 use records::access;
 use rewrite::Rewriting;
 use state::WORDS;
+use table::CELLS;
 use worklist::Worked;
 ghost use mathlib.Core.Path.{_≡_};
 ghost use mathlib.Core.List.{List};
@@ -155,7 +156,8 @@ fn run_worklist(
     requires { ⌜ Indexes (now input) counts (now table) (now wires) (now «feeds_first») (now «feeds_next») (now first) (now next) ⌝ }
     ensures { λ r. ⌜ Answers (now (input .entry)) (now (out .entry)) (now (out .exit)) r ⌝ }
 {
-    let rows = access::rows(input, counts);
+    let mut rows = [false; CELLS];
+    table::index_rows(access::rows(input, counts), &mut rows);
     let mut kinds = [0u8; limit::NODES];
     let mut words = [0u64; WORDS];
     let mut actions = [0u8; limit::NODES];
@@ -165,7 +167,7 @@ fn run_worklist(
         counts,
         table,
         wires,
-        rows,
+        &rows,
         feeds_first,
         feeds_next,
         first,

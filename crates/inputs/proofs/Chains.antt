@@ -127,6 +127,10 @@ module _ (known : Map Value) {xs : List Wire} where
   unfolding resolveWires
   resolve-one o e f g = rw (e, ← f) g
 
+  pub resolve-single : {w : Wire} → xs ≡ w ∷ [] → carried (known (w .source .«node_id»)) ≡ resolveWires known xs
+  unfolding resolveWires
+  resolve-single e = rw e
+
   pub resolve-many : Fan xs → Resolved.Unresolved ≡ resolveWires known xs
   unfolding resolveWires
   resolve-many f = rw (f .list-is)

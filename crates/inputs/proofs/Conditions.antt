@@ -1,67 +1,162 @@
--- Rows of the table, and conditions.
-use Prim.Native.Nat.{ℕ}
+-- Variants of kinds and of inputs, rows of the table, and conditions.
+use Prim.Native.Nat.{ℕ, _-_, _≤_, _<_}
 use native.Mathlib.Omega.{arith}
 use mathlib.Core.Path.{_≡_, refl, sym, ap, _∙_}
-use mathlib.Core.Bool.{Bool, true, false, _||_}
-use mathlib.Core.Option.{none, some}
-use mathlib.Core.List.{List, [], _∷_}
-use Rattle.value.specs.Variants.{inVariant}
+use mathlib.Core.Bool.{Bool, true, false, cond, _&&_, _||_, and-true, false≢true}
+use mathlib.Core.Option.{Option, none, some}
+use mathlib.Core.List.{List, [], _∷_, map}
+use lib.Arith.{lt-of-le-ne}
+use lib.Dec.{eqb, leb, ltb}
+use borrow.Author.Tests.{eqb-true, eqb-false, leb-true, lt-leb, lt-ltb, ne-eqb}
+use Rattle.value.specs.Variants.{variantOf, inVariant}
+use Rattle.value.specs.declared.Value.{Value}
 use Rattle.value.specs.declared.Operand.{Operand}
+use Rattle.encoding.specs.Values.{valueAt, compositeAt}
 use Rattle.conversions.specs.Conversions.{truthyOf}
 use Rattle.graph.specs.Graph.{Graph}
 use Rattle.graph.specs.declared.Row.{Row}
-use Rattle.records.specs.Access.{rowsOf}
-use Rattle.table.specs.Table.{covers as tableCovers, isRow}
+use Rattle.table.specs.Table.{covers as tableCovers, isRow, hasCell}
 use Rattle.model.specs.Maps.{any}
-use Rattle.model.specs.Inputs.{isResolved, operandOf}
+use Rattle.model.specs.Inputs.{carried, orProperty, isResolved, allResolved, operandOf}
 use Rattle.model.specs.Offer.{rowOf, sameRow, covers, resolveCondition}
 use Rattle.model.specs.declared.Resolved.{Resolved}
-use Rattle.inputs.specs.Inputs.{operandIn}
-use Rattle.inputs.specs.declared.OptionOperand.{OptionOperand}
+use Rattle.state.specs.Held.{heldValue, held}
+use Rattle.inputs.specs.Inputs.{inputIf, kindVariant, variantIn}
+
+-- ---- the variant of a kind
+
+outside : (k : ℕ) → (b : Bool) → leb 3 k ≡ b → (eqb k 3 ≡ false) → (eqb k 4 ≡ false) → (eqb k 5 ≡ false) → (eqb k 6 ≡ false) → (eqb k 7 ≡ false) → (eqb k 8 ≡ false) → (b && leb k 8) ≡ false
+outside k false e n3 n4 n5 n6 n7 n8 = refl
+outside k true e n3 n4 n5 n6 n7 n8 =
+    lt-leb k 8
+    (past 8 (past 7 (past 6 (past 5 (past 4 (past 3 (leb-true 3 k e) n3) n4) n5) n6) n7) n8)
+  where
+    past : (m : ℕ) → m ≤ k → eqb k m ≡ false → m < k
+    past m h n = lt-of-le-ne h (λ z. eqb-false k m n (sym z))
+
+module _ (x y z u v w q : Value) (hx : variantOf x ≡ 1) (hy : variantOf y ≡ 2) (hz : variantOf z ≡ 3) (hu : variantOf u ≡ 4) (hv : variantOf v ≡ 5) (hw : variantOf w ≡ 6) (hq : variantOf q ≡ 7) where
+  abbrev by-kind : ℕ → Value
+  by-kind k = cond (eqb k 3) x (cond (eqb k 4) y (cond (eqb k 5) z (cond (eqb k 6) u (cond (eqb k 7) v (cond (eqb k 8) w q)))))
+
+  kind-variant : (k : ℕ) → variantOf (by-kind k) ≡ kindVariant k
+  kind-variant k = from3 (eqb k 3) refl
+    where
+      from8 : (b : Bool) → eqb k 8 ≡ b → eqb k 3 ≡ false → eqb k 4 ≡ false → eqb k 5 ≡ false → eqb k 6 ≡ false → eqb k 7 ≡ false → variantOf (by-kind k) ≡ kindVariant k
+      from8 true e n3 n4 n5 n6 n7 = rw (eqb-true k 8 e) hw
+      from8 false e n3 n4 n5 n6 n7 = rw (n3, n4, n5, n6, n7, e, outside k (leb 3 k) refl n3 n4 n5 n6 n7 e) hq
+
+      from7 : (b : Bool) → eqb k 7 ≡ b → eqb k 3 ≡ false → eqb k 4 ≡ false → eqb k 5 ≡ false → eqb k 6 ≡ false → variantOf (by-kind k) ≡ kindVariant k
+      from7 true e n3 n4 n5 n6 = rw (eqb-true k 7 e) hv
+      from7 false e n3 n4 n5 n6 = from8 (eqb k 8) refl n3 n4 n5 n6 e
+
+      from6 : (b : Bool) → eqb k 6 ≡ b → eqb k 3 ≡ false → eqb k 4 ≡ false → eqb k 5 ≡ false → variantOf (by-kind k) ≡ kindVariant k
+      from6 true e n3 n4 n5 = rw (eqb-true k 6 e) hu
+      from6 false e n3 n4 n5 = from7 (eqb k 7) refl n3 n4 n5 e
+
+      from5 : (b : Bool) → eqb k 5 ≡ b → eqb k 3 ≡ false → eqb k 4 ≡ false → variantOf (by-kind k) ≡ kindVariant k
+      from5 true e n3 n4 = rw (eqb-true k 5 e) hz
+      from5 false e n3 n4 = from6 (eqb k 6) refl n3 n4 e
+
+      from4 : (b : Bool) → eqb k 4 ≡ b → eqb k 3 ≡ false → variantOf (by-kind k) ≡ kindVariant k
+      from4 true e n3 = rw (eqb-true k 4 e) hy
+      from4 false e n3 = from5 (eqb k 5) refl n3 e
+
+      from3 : (b : Bool) → eqb k 3 ≡ b → variantOf (by-kind k) ≡ kindVariant k
+      from3 true e = rw (eqb-true k 3 e) hx
+      from3 false e = from4 (eqb k 4) refl e
+
+held-value : (k a b c d : ℕ) → variantOf (heldValue k a b c d) ≡ kindVariant k
+unfolding heldValue
+held-value k a b c d = kind-variant _ _ _ _ _ _ _ refl refl refl refl refl refl refl k
+
+pub value-at : (k : ℕ) (s : List ℕ) (i : ℕ) → variantOf (valueAt k s i) ≡ kindVariant k
+unfolding valueAt compositeAt
+value-at k s i = kind-variant _ _ _ _ _ _ _ refl refl refl refl refl refl refl k
+
+pub held-none : (k a b c d : ℕ) → k ≡ 0 → 8 ≡ variantIn (carried (held k a b c d))
+unfolding held
+held-none k a b c d e = rw e
+
+pub held-some : (k a b c d : ℕ) → (k ≡ 0 → ⊥) → kindVariant k ≡ variantIn (carried (held k a b c d))
+unfolding held
+held-some k a b c d e = rw (ne-eqb k 0 e) (sym (held-value k a b c d))
+
+-- ---- operands
+
+-- a value is the same operand as property and as known
+pub same-operand : (o : Option Value) → operandOf (carried o) ≡ operandOf (orProperty Resolved.Unwired o)
+same-operand none = refl
+same-operand (some v) = refl
+
+-- ---- an input that a gate may have
+
+pub has-input : {has : Bool} (i : Resolved) → has ≡ true → i ≡ inputIf has i
+has-input i e = rw e
+
+pub no-input : {has : Bool} (i : Resolved) → has ≡ false → Resolved.Unwired ≡ inputIf has i
+no-input i e = rw e
+
+-- ---- rows
 
 among : (rows : List Row) (row : Row) → tableCovers rows row ≡ any (λ q. sameRow q row) rows
 unfolding tableCovers any
 among [] row = refl
 among (r ∷ rows) row = ap (λ (b : Bool). isRow r row || b) (among rows row)
 
-pub covers-same : (g : Graph) (rows : List ℕ) → rowsOf rows ≡ g .rows → (class : ℕ) (a b c : Operand) {x y z : ℕ} → x ≡ inVariant a → y ≡ inVariant b → z ≡ inVariant c
-    → tableCovers (rowsOf rows) (record { class = class; first = x; second = y; third = z }) ≡ covers g class (a ∷ b ∷ c ∷ [])
-unfolding covers
-covers-same g rows e class a b c p q r = rw (p, q, r, e) (among (g .rows) (rowOf class (a ∷ b ∷ c ∷ [])))
+small : (v : Value) → leb (variantOf v) 7 ≡ true
+small (Value.Int n) = refl
+small (Value.Float x) = refl
+small (Value.Bool b) = refl
+small (Value.Vector x y z) = refl
+small (Value.Rotator p y r) = refl
+small (Value.Quat x y z w) = refl
+small (Value.Color r g b a) = refl
 
--- ---- operands
+has-variant : (i : Resolved) → leb (variantIn i) 7 ≡ isResolved i
+has-variant Resolved.Unwired = refl
+has-variant (Resolved.Known v) = small v
+has-variant Resolved.Unresolved = refl
 
-pub operand-none : (i : Resolved) → operandIn i ≡ OptionOperand.None → isResolved i ≡ false
-operand-none Resolved.Unwired e = let z : _≡_ {A = ℕ} 0 1 = cc in absurd (omega arith)
-operand-none (Resolved.Known v) e = let z : _≡_ {A = ℕ} 0 1 = cc in absurd (omega arith)
-operand-none Resolved.Unresolved e = refl
+abbrev row : ℕ → Resolved → Resolved → Resolved → Row
+row class a b c = record { class = class; first = variantIn a; second = variantIn b; third = variantIn c }
 
--- the input has the operand
-pub record HasOperand (i : Resolved) (o : Operand) : Type 0 where
-  pub resolved : isResolved i ≡ true
-  pub operand : operandOf i ≡ o
+-- the row of a gate whose inputs are resolved
+module _ (g : Graph) (class : ℕ) where
+  as-operands : (a b c : Resolved) → isResolved a ≡ true → isResolved b ≡ true → isResolved c ≡ true → tableCovers (g .rows) (row class a b c) ≡ covers g class (map operandOf (a ∷ b ∷ c ∷ []))
+  unfolding covers
+  as-operands a b c p q r = rw (named a p, named b q, named c r) (among (g .rows) (rowOf class (map operandOf (a ∷ b ∷ c ∷ []))))
+    where
+      named : (i : Resolved) → isResolved i ≡ true → variantIn i ≡ inVariant (operandOf i)
+      named Resolved.Unwired e = refl
+      named (Resolved.Known v) e = refl
+      named Resolved.Unresolved e = absurd (false≢true e)
 
-pub operand-some : (i : Resolved) (o : Operand) → operandIn i ≡ OptionOperand.Some o → HasOperand i o
-operand-some Resolved.Unwired o e = record { resolved = refl; operand = cc }
-operand-some (Resolved.Known v) o e = record { resolved = refl; operand = cc }
-operand-some Resolved.Unresolved o e = let z : _≡_ {A = ℕ} 0 1 = cc in absurd (omega arith)
+  pub covers-same : class < 42 → (a b c : Resolved) → (hasCell (row class a b c) && tableCovers (g .rows) (row class a b c)) ≡ (allResolved (a ∷ b ∷ c ∷ []) && covers g class (map operandOf (a ∷ b ∷ c ∷ [])))
+  unfolding allResolved
+  covers-same h a b c = rw (lt-ltb class 42 h, has-variant a, has-variant b, has-variant c) (go (isResolved a) (isResolved b) (isResolved c) refl refl refl)
+    where
+      go : (x y z : Bool) → isResolved a ≡ x → isResolved b ≡ y → isResolved c ≡ z → (x && y && z && tableCovers (g .rows) (row class a b c)) ≡ ((x && (y && (z && true))) && covers g class (map operandOf (a ∷ b ∷ c ∷ [])))
+      go true true true p q r = as-operands a b c p q r
+      go true true false p q r = refl
+      go true false z p q r = refl
+      go false y z p q r = refl
 
 -- ---- a condition
 
--- m is the operand of the input i
-module _ (g : Graph) (class : ℕ) (i : Resolved) {r : Resolved} {m : OptionOperand} (read : r ≡ i) (taken : m ≡ operandIn r) where
-  same : {x : OptionOperand} → m ≡ x → operandIn i ≡ x
-  same e = ap operandIn (sym read) ∙ sym taken ∙ e
+module _ (g : Graph) (class : ℕ) (i : Resolved) {v : ℕ} (variant : v ≡ variantIn i) {t : Bool}
+    (covered : t ≡ (hasCell (record { class = class; first = v; second = 0; third = 0 }) && tableCovers (g .rows) (record { class = class; first = v; second = 0; third = 0 }))) (h : class < 42) where
+  same : t ≡ (isResolved i && covers g class (operandOf i ∷ []))
+  unfolding allResolved covers
+  same =
+      covered
+      ∙ ap (λ (x : ℕ). hasCell (record { class = class; first = x; second = 0; third = 0 }) && tableCovers (g .rows) (record { class = class; first = x; second = 0; third = 0 })) variant
+      ∙ covers-same g class h i Resolved.Unwired Resolved.Unwired
+      ∙ ap (λ (b : Bool). b && covers g class (operandOf i ∷ [])) (and-true (isResolved i))
 
-  pub condition-unresolved : m ≡ OptionOperand.None → none ≡ resolveCondition g class i
+  pub condition-covered : t ≡ true → {o : Operand} → o ≡ operandOf i → {b : Bool} → b ≡ truthyOf o → some b ≡ resolveCondition g class i
   unfolding resolveCondition
-  condition-unresolved e = rw (operand-none i (same e))
+  condition-covered e p f = rw (← same, e, f, p)
 
-  module _ {o : Operand} {t : Bool} (h : m ≡ OptionOperand.Some o) (c : t ≡ covers g class (o ∷ Operand.Unwired ∷ Operand.Unwired ∷ [])) where
-    pub condition-covered : {b : Bool} → t ≡ true → b ≡ truthyOf o → some b ≡ resolveCondition g class i
-    unfolding resolveCondition covers
-    condition-covered e f = let k = operand-some i o (same h) in rw (k .resolved, k .operand, ← c, e, f)
-
-    pub condition-uncovered : t ≡ false → none ≡ resolveCondition g class i
-    unfolding resolveCondition covers
-    condition-uncovered e = let k = operand-some i o (same h) in rw (k .resolved, k .operand, ← c, e)
+  pub condition-uncovered : t ≡ false → none ≡ resolveCondition g class i
+  unfolding resolveCondition
+  condition-uncovered e = rw (← same, e)

@@ -1,13 +1,13 @@
 -- What a lookup of an input reads, and what the types of the code say in the model's terms.
 use Prim.Native.Nat.{ℕ, _-_}
 use mathlib.Core.Path.{_≡_}
-use mathlib.Core.Bool.{Bool, cond}
+use mathlib.Core.Bool.{Bool, cond, _&&_}
 use mathlib.Core.Option.{Option, none, some}
 use mathlib.Core.List.{List}
-use lib.Dec.{eqb}
+use lib.Dec.{eqb, leb}
 use lib.ListN.{getD}
 use Rattle.ir.specs.declared.Wire.{Wire}
-use Rattle.value.specs.declared.Operand.{Operand}
+use Rattle.value.specs.Variants.{variantOf}
 use Rattle.graph.specs.Graph.{Graph}
 use Rattle.graph.specs.Decode.{graphOf}
 use Rattle.graph.specs.Index.{Indexed}
@@ -20,7 +20,6 @@ use Rattle.state.specs.Held.{knownOf}
 use Rattle.inputs.specs.declared.Feeds.{Feeds}
 use Rattle.inputs.specs.declared.Feeds.the-variants.{None, One, Many}
 use Rattle.inputs.specs.declared.OptionBool.{OptionBool}
-use Rattle.inputs.specs.declared.OptionOperand.{OptionOperand}
 
 -- ---- wires into a port
 
@@ -60,8 +59,18 @@ abbrev pub truth : OptionBool → Option Bool
 truth OptionBool.None = none
 truth (OptionBool.Some b) = some b
 
--- the operand of an input that is not Unresolved
-abbrev pub operandIn : Resolved → OptionOperand
-operandIn Resolved.Unwired = OptionOperand.Some Operand.Unwired
-operandIn (Resolved.Known v) = OptionOperand.Some (Operand.Known v)
-operandIn Resolved.Unresolved = OptionOperand.None
+-- an input, where a gate has it
+abbrev pub inputIf : Bool → Resolved → Resolved
+inputIf has input = cond has input Resolved.Unwired
+
+-- ---- variants
+
+-- the variant of the values of a kind, which are those from 03 to 09
+abbrev pub kindVariant : ℕ → ℕ
+kindVariant kind = cond (leb 3 kind && leb kind 8) (kind - 2) 7
+
+-- the variant that a row names for an input; one that is Unresolved has none, and 8 says so
+abbrev pub variantIn : Resolved → ℕ
+variantIn Resolved.Unwired = 0
+variantIn (Resolved.Known v) = variantOf v
+variantIn Resolved.Unresolved = 8

@@ -1,26 +1,30 @@
 // What the input ports of a node have, by what is known: lower/fold/mod.rs from `resolve_input` to `resolve_condition`.
 use graph::SLOTS;
+use ir::kind;
 use ir::limit;
 use ir::port;
+use ir::variant;
 use model::Resolved;
 use records::access;
 use state::WORDS;
+use table::CELLS;
 use value::Operand;
 use value::OptionValue;
 ghost use mathlib.Core.Path.{_≡_};
-ghost use mathlib.Core.List.{[], _∷_};
-ghost use Prim.Native.Nat.{_<_, _≤_};
+ghost use mathlib.Core.List.{List};
+ghost use Prim.Native.Nat.{ℕ, _<_, _≤_};
 ghost use lib.ListN.{length, getD};
 ghost use Rattle.ir.specs.Limits.{maxNodes, maxWires};
 ghost use Rattle.ir.specs.Ports.{valuePort};
-ghost use Rattle.graph.specs.Graph.{Graph};
+ghost use Rattle.graph.specs.Graph.{lookup};
 ghost use Rattle.graph.specs.Decode.{graphOf};
-ghost use Rattle.graph.specs.Index.{slot};
-ghost use Rattle.records.specs.Access.{wiresOf, rowsOf, noWire};
-ghost use Rattle.model.specs.Inputs.{size, optional, carried as carriedOf, orProperty, resolveWires, isResolved, operandOf};
-ghost use Rattle.model.specs.Offer.{covers as coversOf, resolveCondition};
+ghost use Rattle.graph.specs.Index.{Indexed, slot};
+ghost use Rattle.records.specs.Access.{wiresOf, noWire};
+ghost use Rattle.table.specs.Table.{Cells};
+ghost use Rattle.model.specs.Inputs.{size, optional, carried as carriedOf, orProperty, resolveWires, operandOf};
+ghost use Rattle.model.specs.Offer.{resolveCondition};
 ghost use Rattle.state.specs.Held.{knownOf};
-ghost use Rattle.inputs.specs.Inputs.{feedsIn, feedsOf, Wired, Inputs, portOf, truth, operandIn};
+ghost use Rattle.inputs.specs.Inputs.{feedsIn, feedsOf, Wired, Inputs, portOf, inputIf, truth, kindVariant, variantIn};
 
 // The wires into a port: none, one with its number, or more.
 pub enum Feeds {
@@ -34,10 +38,8 @@ pub enum OptionBool {
     Some(bool),
 }
 
-pub enum OptionOperand {
-    None,
-    Some(Operand),
-}
+// The variant of an Unresolved input, which no row has.
+pub const UNRESOLVED: u8 = 8;
 
 fn wide(x: u8) -> usize
     ensures { λ r. ⌜ (r ≡ x) × (r < 256) ⌝ }
@@ -143,49 +145,118 @@ pub fn resolve_data_input(
     }
 }
 
-pub fn is_resolved(input: Resolved) -> bool
-    ensures { λ r. ⌜ r ≡ isResolved input ⌝ }
+// The variant of the values of a kind.
+fn variant_of(kind: u8) -> u8
+    ensures { λ r. ⌜ r ≡ kindVariant kind ⌝ }
 {
-    match input {
-        Resolved::Unwired => true,
-        Resolved::Known(_) => true,
-        Resolved::Unresolved => false,
+    if (kind::INT <= kind) & (kind <= kind::QUAT) {
+        kind - 2
+    } else {
+        variant::COLOR
     }
 }
 
-// The operand of a gate at an input; no gate is asked about an Unresolved one.
-pub fn operand_of(input: Resolved) -> Operand
-    ensures { λ r. ⌜ r ≡ operandOf input ⌝ }
+// The variant of a node's property, or Unwired where it has none.
+fn property_variant(input: &[u8], table: &[u16; SLOTS], node: usize, port: u8) -> u8
+    requires { ⌜ (node < maxNodes) × (port ≤ valuePort) × Indexed (graphOf (now input) .properties) (now input) (now table) ⌝ }
+    ensures { λ r. ⌜ r ≡ variantIn (orProperty Resolved.Unwired (optional (lookup node port (graphOf (now (input .entry)) .properties)))) ⌝ }
 {
-    match input {
-        Resolved::Unwired => Operand::Unwired,
-        Resolved::Known(v) => Operand::Known(v),
-        Resolved::Unresolved => Operand::Unwired,
+    let i = node * port::COUNT + wide(port);
+    let at = wide_number(table[i]);
+    if at == 0 {
+        return variant::UNWIRED;
+    }
+    variant_of(input[at])
+}
+
+// The variant of what is known of a wire's source.
+fn source_variant(wires: &[u8], kinds: &[u8; limit::NODES], wire: u16) -> u8
+    requires { ⌜ (wire < length (wiresOf (now wires))) × (getD (wiresOf (now wires)) wire noWire .source .«node_id» < maxNodes) ⌝ }
+    ensures { λ r. ⌜ ((words : List ℕ) → r ≡ variantIn (carriedOf (knownOf (now (kinds .entry)) words (getD (wiresOf (now (wires .entry))) wire noWire .source .«node_id»)))) ⌝ }
+{
+    let read = access::wire(wires, wide_number(wire));
+    let source = read.source.node_id;
+    let kind = kinds[source];
+    if kind == state::UNKNOWN {
+        return UNRESOLVED;
+    }
+    variant_of(kind)
+}
+
+// The variant of what `resolve_data_input` gives of a port.
+pub fn variant_at(
+    input: &[u8],
+    table: &[u16; SLOTS],
+    wires: &[u8],
+    first: &[u16; SLOTS],
+    next: &[u16; limit::WIRES],
+    kinds: &[u8; limit::NODES],
+    node: usize,
+    port: u8,
+) -> u8
+    requires { ⌜ Inputs (graphOf (now input)) (now input) (now table) (now wires) (now first) (now next) × (node < size (graphOf (now input))) × (port ≤ valuePort) ⌝ }
+    ensures { λ r. ⌜ ((words : List ℕ) → r ≡ variantIn (portOf (now (input .entry)) (now (kinds .entry)) words node port)) ⌝ }
+{
+    match feeds_of(first, next, node, port) {
+        Feeds::None => property_variant(input, table, node, port),
+        Feeds::One(wire) => source_variant(wires, kinds, wire),
+        Feeds::Many => UNRESOLVED,
     }
 }
 
-// The operand of an input that is not Unresolved.
-fn operand_in(input: Resolved) -> OptionOperand
-    ensures { λ r. ⌜ r ≡ operandIn input ⌝ }
+// A value as operand.
+fn operand_of(known: OptionValue) -> Operand
+    ensures { λ r. ⌜ r ≡ operandOf (carriedOf (optional known)) ⌝ }
 {
-    match input {
-        Resolved::Unwired => OptionOperand::Some(Operand::Unwired),
-        Resolved::Known(v) => OptionOperand::Some(Operand::Known(v)),
-        Resolved::Unresolved => OptionOperand::None,
+    let OptionValue::Some(v) = known else {
+        return Operand::Unwired;
+    };
+    Operand::Known(v)
+}
+
+// What `resolve_data_input` gives of a port, as operand; no gate is asked about an Unresolved one.
+fn operand_at(
+    input: &[u8],
+    table: &[u16; SLOTS],
+    wires: &[u8],
+    first: &[u16; SLOTS],
+    next: &[u16; limit::WIRES],
+    kinds: &[u8; limit::NODES],
+    words: &[u64; WORDS],
+    node: usize,
+    port: u8,
+) -> Operand
+    requires { ⌜ Inputs (graphOf (now input)) (now input) (now table) (now wires) (now first) (now next) × (node < size (graphOf (now input))) × (port ≤ valuePort) ⌝ }
+    ensures { λ r. ⌜ r ≡ operandOf (portOf (now (input .entry)) (now (kinds .entry)) (now (words .entry)) node port) ⌝ }
+{
+    match feeds_of(first, next, node, port) {
+        Feeds::None => operand_of(access::property(input, table, node, port)),
+        Feeds::One(wire) => operand_of(source_value(wires, kinds, words, wire)),
+        Feeds::Many => Operand::Unwired,
     }
 }
 
-// Whether the table has the row of a class and these operands.
-pub fn covers(rows: &[u8], class: u8, a: Operand, b: Operand, c: Operand) -> bool
-    ensures { λ r. ⌜ ((g : Graph) → rowsOf (now (rows .entry)) ≡ g .rows → r ≡ coversOf g class (a ∷ b ∷ c ∷ [])) ⌝ }
+// The operand that a gate has at a port; Unwired where it has no such input. One function for all ports, so that its result is not copied.
+pub fn operand_if(
+    has: bool,
+    input: &[u8],
+    table: &[u16; SLOTS],
+    wires: &[u8],
+    first: &[u16; SLOTS],
+    next: &[u16; limit::WIRES],
+    kinds: &[u8; limit::NODES],
+    words: &[u64; WORDS],
+    node: usize,
+    port: u8,
+) -> Operand
+    requires { ⌜ Inputs (graphOf (now input)) (now input) (now table) (now wires) (now first) (now next) × (node < size (graphOf (now input))) × (port ≤ valuePort) ⌝ }
+    ensures { λ r. ⌜ r ≡ operandOf (inputIf has (portOf (now (input .entry)) (now (kinds .entry)) (now (words .entry)) node port)) ⌝ }
 {
-    table::covers(
-        rows,
-        class,
-        value::in_variant(a),
-        value::in_variant(b),
-        value::in_variant(c),
-    )
+    if has {
+        operand_at(input, table, wires, first, next, kinds, words, node, port)
+    } else {
+        Operand::Unwired
+    }
 }
 
 // The truth of the condition at a port of a Select or a Branch: one that is resolved, and whose one-variant row is in the table.
@@ -193,7 +264,7 @@ pub fn resolve_condition(
     input: &[u8],
     table: &[u16; SLOTS],
     wires: &[u8],
-    rows: &[u8],
+    rows: &[bool; CELLS],
     first: &[u16; SLOTS],
     next: &[u16; limit::WIRES],
     kinds: &[u8; limit::NODES],
@@ -202,14 +273,23 @@ pub fn resolve_condition(
     port: u8,
     class: u8,
 ) -> OptionBool
-    requires { ⌜ Inputs (graphOf (now input)) (now input) (now table) (now wires) (now first) (now next) × (rowsOf (now rows) ≡ graphOf (now input) .rows) × (node < size (graphOf (now input))) × (port ≤ valuePort) ⌝ }
+    requires { ⌜ Inputs (graphOf (now input)) (now input) (now table) (now wires) (now first) (now next) × Cells (graphOf (now input) .rows) (now rows) × (class < 42) × (node < size (graphOf (now input))) × (port ≤ valuePort) ⌝ }
     ensures { λ r. ⌜ truth r ≡ resolveCondition (graphOf (now (input .entry))) class (portOf (now (input .entry)) (now (kinds .entry)) (now (words .entry)) node port) ⌝ }
 {
-    let resolved = resolve_data_input(input, table, wires, first, next, kinds, words, node, port);
-    let OptionOperand::Some(condition) = operand_in(resolved) else {
-        return OptionBool::None;
-    };
-    if covers(rows, class, condition, Operand::Unwired, Operand::Unwired) {
+    let variant = variant_at(input, table, wires, first, next, kinds, node, port);
+    if table::covers(rows, class, variant, variant::UNWIRED, variant::UNWIRED) {
+        let condition = operand_if(
+            true,
+            input,
+            table,
+            wires,
+            first,
+            next,
+            kinds,
+            words,
+            node,
+            port,
+        );
         return OptionBool::Some(conversions::truthy(condition));
     }
     OptionBool::None

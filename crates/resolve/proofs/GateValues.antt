@@ -1,67 +1,64 @@
 -- The value of a gate, as the model has it.
-use Prim.Native.Nat.{ℕ}
+use Prim.Native.Nat.{ℕ, _<_}
 use mathlib.Core.Path.{_≡_, refl, sym, ap, _∙_, subst}
 use mathlib.Core.Bool.{Bool, true, false, cond, _&&_, _||_}
 use mathlib.Core.Option.{Option, none, some}
-use mathlib.Core.List.{List, [], _∷_}
-use lib.Dec.{eqb}
+use mathlib.Core.List.{List, [], _∷_, map}
+use lib.Dec.{eqb, ltb}
 use borrow.Author.Tests.{eqb-true}
 use types.Run.{OneOf, miss}
 use denote.Enum.Declared.{tagOf}
+use Rattle.ir.specs.Classes.{inputCount, inputPorts}
+use Rattle.ir.specs.declared.Folding.{Folding}
 use Rattle.value.specs.declared.Value.{Value}
 use Rattle.value.specs.declared.Operand.{Operand}
 use Rattle.value.specs.declared.OptionValue.{OptionValue}
 use Rattle.semantics.specs.Eval.{evalOf}
 use Rattle.semantics.specs.Finite.{nonFiniteFloat}
 use Rattle.graph.specs.Graph.{Graph, member}
-use Rattle.table.specs.Table.{annihilatorOf}
+use Rattle.table.specs.Table.{covers as tableCovers, hasCell, annihilatorOf}
 use Rattle.table.specs.declared.AnnihilatorKind.{AnnihilatorKind}
 use Rattle.table.specs.declared.OptionAnnihilator.{OptionAnnihilator}
 use Rattle.model.specs.Maps.{any, orElse}
 use Rattle.model.specs.Inputs.{optional, isResolved, allResolved, operandOf}
-use Rattle.model.specs.Offer.{covers, evaluated, settles, annihilator, holdsBool, settled, gateValue, literalOffer}
+use Rattle.model.specs.Offer.{plannable, covers, evaluated, settles, annihilator, holdsBool, settled, gateValue, literalOffer}
 use Rattle.model.specs.declared.Resolved.{Resolved}
 use Rattle.model.proofs.Resolved.{the-type as resolved-type}
 use Rattle.state.specs.declared.Trial.{Trial}
-use Rattle.resolve.specs.Gives.{covered, Gives}
+use Rattle.inputs.specs.Inputs.{variantIn}
+use Rattle.inputs.proofs.Conditions.{covers-same}
+use Rattle.resolve.specs.Gives.{gateInputs, covered, Gives}
+use Rattle.resolve.proofs.Trials.{IsGate}
 
--- ---- operands
+-- ---- what a gate gives
 
-module _ (g : Graph) (class : ℕ) (a b c : Operand) {t : Bool} (row : t ≡ covers g class (a ∷ b ∷ c ∷ [])) where
-  pub not-covered : t ≡ false → none ≡ covered g class a b c
-  unfolding covered
-  not-covered e = rw (← row, e)
+module _ {o p : OptionValue} (value : o ≡ p) where
+  pub gives-none : o ≡ OptionValue.None → none ≡ plannable p
+  gives-none h = rw (← value, h)
 
-  module _ {o : OptionValue} (e : t ≡ true) (value : o ≡ evalOf class a b c) where
-    pub gives-none : o ≡ OptionValue.None → none ≡ covered g class a b c
-    unfolding covered
-    gives-none h = rw (← row, e, ← value, h)
+  module _ {v : Value} (h : o ≡ OptionValue.Some v) {f : Bool} (finite : f ≡ nonFiniteFloat v) where
+    pub gives-non-finite : f ≡ true → none ≡ plannable p
+    gives-non-finite k = rw (← value, h, ← finite, k)
 
-    module _ {v : Value} (h : o ≡ OptionValue.Some v) {f : Bool} (finite : f ≡ nonFiniteFloat v) where
-      pub gives-non-finite : f ≡ true → none ≡ covered g class a b c
-      unfolding covered
-      gives-non-finite k = rw (← row, e, ← value, h, ← finite, k)
+    pub gives-value : f ≡ false → some v ≡ plannable p
+    gives-value k = rw (← value, h, ← finite, k)
 
-      pub gives-value : f ≡ false → some v ≡ covered g class a b c
-      unfolding covered
-      gives-value k = rw (← row, e, ← value, h, ← finite, k)
+module _ (g : Graph) (class : ℕ) (a b c : Resolved) {t : Bool} (e : t ≡ covered g class (a ∷ b ∷ c ∷ [])) where
+  pub not-covered : t ≡ false → none ≡ evaluated g class (a ∷ b ∷ c ∷ [])
+  unfolding evaluated
+  not-covered h = rw (← e, h)
+
+  pub is-covered : t ≡ true → {x y z : Operand} → x ≡ operandOf a → y ≡ operandOf b → z ≡ operandOf c → plannable (evalOf class x y z) ≡ evaluated g class (a ∷ b ∷ c ∷ [])
+  unfolding evaluated
+  is-covered h p q r = rw (← e, h, p, q, r)
 
 -- ---- inputs
 
-and-first : (x y z : Bool) → ((x && y) && z) ≡ (x && (y && (z && true)))
-and-first true true true = refl
-and-first true true false = refl
-and-first true false z = refl
-and-first false y z = refl
-
-module _ (g : Graph) (class : ℕ) (a b c : Resolved) {x y z : Bool} (p : x ≡ isResolved a) (q : y ≡ isResolved b) (r : z ≡ isResolved c) where
-  pub not-resolved : ((x && y) && z) ≡ false → none ≡ evaluated g class (a ∷ b ∷ c ∷ [])
-  unfolding evaluated allResolved
-  not-resolved e = rw (← p, ← q, ← r, ← and-first x y z, e)
-
-  pub all-resolved : {s t u : Operand} → ((x && y) && z) ≡ true → s ≡ operandOf a → t ≡ operandOf b → u ≡ operandOf c → covered g class s t u ≡ evaluated g class (a ∷ b ∷ c ∷ [])
-  unfolding covered evaluated allResolved
-  all-resolved e i j k = rw (← p, ← q, ← r, ← and-first x y z, e, i, j, k)
+-- the inputs a, b and c have these variants, and t says whether the table has their row
+pub covers-inputs : (g : Graph) (class : ℕ) → class < 42 → (a b c : Resolved) {x y z : ℕ} → x ≡ variantIn a → y ≡ variantIn b → z ≡ variantIn c → {t : Bool}
+    → t ≡ (hasCell (record { class = class; first = x; second = y; third = z }) && tableCovers (g .rows) (record { class = class; first = x; second = y; third = z }))
+    → t ≡ covered g class (a ∷ b ∷ c ∷ [])
+covers-inputs g class h a b c p q r e = e ∙ rw (p, q, r) (covers-same g class h a b c)
 
 -- ---- annihilators
 
@@ -138,6 +135,11 @@ module _ (g : Graph) (class : ℕ) (is : List Resolved) (o : OptionValue) (e : o
   unfolding gateValue orElse
   gate-evaluated h = rw (← e, h)
 
+-- a gate that is settled by its inputs
+pub settles-inputs : (g : Graph) (n class : ℕ) (t : Trial) {a b c x y z : Resolved} → a ≡ x → b ≡ y → c ≡ z → {o : Option Value} → o ≡ settled (annihilator g class) (a ∷ b ∷ c ∷ []) → Gives g n (literalOffer o) t
+    → Gives g n (literalOffer (settled (annihilator g class) (x ∷ y ∷ z ∷ []))) t
+settles-inputs g n class t p q r e h = subst (λ (o : Option Value). Gives g n (literalOffer o) t) (e ∙ rw (p, q, r)) h
+
 -- a gate of one, two and three inputs
 module _ (g : Graph) (n class : ℕ) (t : Trial) where
   pub same-value : {p q : Option Value} → p ≡ q → Gives g n (literalOffer p) t → Gives g n (literalOffer q) t
@@ -152,7 +154,7 @@ module _ (g : Graph) (n class : ℕ) (t : Trial) where
     settled-one none = refl
     settled-one (some b) = refl
 
-    pub one-input : GivesGate (a ∷ Resolved.Unwired ∷ Resolved.Unwired ∷ []) → GivesGate (x ∷ [])
+    one-input : GivesGate (a ∷ Resolved.Unwired ∷ Resolved.Unwired ∷ []) → GivesGate (x ∷ [])
     unfolding gateValue evaluated allResolved covers
     one-input h = same-value (ap (orElse (evaluated g class (x ∷ []))) (settled-one (annihilator g class))) (rw p at h)
 
@@ -162,9 +164,19 @@ module _ (g : Graph) (n class : ℕ) (t : Trial) where
       settled-two none = refl
       settled-two (some b) = refl
 
-      pub two-inputs : GivesGate (a ∷ b ∷ Resolved.Unwired ∷ []) → GivesGate (x ∷ y ∷ [])
+      two-inputs : GivesGate (a ∷ b ∷ Resolved.Unwired ∷ []) → GivesGate (x ∷ y ∷ [])
       unfolding gateValue evaluated allResolved covers
       two-inputs h = same-value (ap (orElse (evaluated g class (x ∷ y ∷ []))) (settled-two (annihilator g class))) (rw (p, q) at h)
 
-      pub three-inputs : {c z : Resolved} → c ≡ z → GivesGate (a ∷ b ∷ c ∷ []) → GivesGate (x ∷ y ∷ z ∷ [])
-      three-inputs r h = rw (p, q, r) at h
+-- a gate of as many inputs as its class has
+pub by-inputs : (g : Graph) (n class : ℕ) (t : Trial) (ports : ℕ → Resolved) (f : Folding) → IsGate f → {count : ℕ} → count ≡ inputCount f
+    → Gives g n (literalOffer (gateValue g class (gateInputs ports (ltb 1 count) (ltb 2 count)))) t
+    → Gives g n (literalOffer (gateValue g class (map ports (inputPorts f)))) t
+by-inputs g n class t ports Folding.Never k e h = absurd (miss (5 ∷ 6 ∷ 7 ∷ []) 0 tt k)
+by-inputs g n class t ports Folding.Literal k e h = absurd (miss (5 ∷ 6 ∷ 7 ∷ []) 1 tt k)
+by-inputs g n class t ports Folding.Microchip k e h = absurd (miss (5 ∷ 6 ∷ 7 ∷ []) 2 tt k)
+by-inputs g n class t ports Folding.Select k e h = absurd (miss (5 ∷ 6 ∷ 7 ∷ []) 3 tt k)
+by-inputs g n class t ports Folding.Branch k e h = absurd (miss (5 ∷ 6 ∷ 7 ∷ []) 4 tt k)
+by-inputs g n class t ports Folding.Unary k e h = one-input g n class t refl (rw e at h)
+by-inputs g n class t ports Folding.Binary k e h = two-inputs g n class t refl refl (rw e at h)
+by-inputs g n class t ports Folding.Ternary k e h = rw e at h

@@ -2,13 +2,15 @@
 use Prim.Native.Nat.{ℕ, zero, suc, _<_}
 use native.Mathlib.Omega.{arith}
 use mathlib.Core.Path.{_≡_, refl, sym, ap, _∙_}
-use mathlib.Core.Bool.{Bool, true, false, cond}
+use mathlib.Core.Bool.{Bool, true, false, cond, false≢true}
 use mathlib.Core.Option.{Option, none, some}
 use mathlib.Core.List.{List, [], _∷_, map}
-use lib.ListN.{length, getD}
+use lib.ListN.{length, getD, List·getD-eq-default}
+use lib.Dec.{ltb}
+use borrow.Author.Tests.{ltb-true, ltb-false}
 use types.Run.{OneOf, miss}
 use denote.Enum.Declared.{tagOf}
-use Rattle.ir.specs.Classes.{foldingOf, inputPorts}
+use Rattle.ir.specs.Classes.{classes, foldingOf, hasRows, inputPorts}
 use Rattle.ir.specs.Flags.{nofold}
 use Rattle.ir.specs.Ports.{inputA, inputB, bSelectB, bCond, execOutA, execOutB, rerInput, valuePort}
 use Rattle.ir.specs.declared.Folding.{Folding}
@@ -24,6 +26,7 @@ use Rattle.model.specs.Inputs.{size, nodeOf, feeds, optional, property, carried
 use Rattle.model.specs.Offer.{Offer, noOffer, valueOffer, literalOffer, resolveCondition, chosenOffer, selectOffer, branchOffer, gateValue, gateOffer, foldingOffer, byItself, nodeOffer, offer, literalValue, literals}
 use Rattle.model.specs.Offer as Plan
 use Rattle.model.specs.declared.Resolved.{Resolved}
+use Rattle.ir.proofs.Folding.{the-type as folding-type}
 use Rattle.model.proofs.Resolved.{the-type as resolved-type}
 use Rattle.state.specs.Trials.{offerOf, Within}
 use Rattle.state.specs.declared.Trial.{Trial}
@@ -35,8 +38,30 @@ use Rattle.inputs.proofs.Chains.{Fan, Says}
 use Rattle.resolve.specs.Reads.{Reads}
 use Rattle.resolve.specs.Gives.{Gives}
 
-pub inputs : {g : Graph} {c : Counts} {input table wires rows first next : List ℕ} → Reads g c input table wires rows first next → Inputs g input table wires first next
+pub inputs : {g : Graph} {c : Counts} {input table wires : List ℕ} {rows : List Bool} {first next : List ℕ} → Reads g c input table wires rows first next → Inputs g input table wires first next
 inputs r = record { properties = r .properties; wires-part = r .wires-part; bounded = r .bounded; chains = r .feeds }
+
+-- the gates of one, two and three inputs
+abbrev pub IsGate : Folding → Type 0
+IsGate f = OneOf (5 ∷ 6 ∷ 7 ∷ []) (tagOf folding-type f)
+
+pub gate-rows : (f : Folding) → IsGate f → hasRows f ≡ true
+gate-rows Folding.Never h = absurd (miss (5 ∷ 6 ∷ 7 ∷ []) 0 tt h)
+gate-rows Folding.Literal h = absurd (miss (5 ∷ 6 ∷ 7 ∷ []) 1 tt h)
+gate-rows Folding.Microchip h = absurd (miss (5 ∷ 6 ∷ 7 ∷ []) 2 tt h)
+gate-rows Folding.Select h = refl
+gate-rows Folding.Branch h = refl
+gate-rows Folding.Unary h = refl
+gate-rows Folding.Binary h = refl
+gate-rows Folding.Ternary h = refl
+
+-- a class that has rows is a listed one
+pub listed : {f : Folding} {k : ℕ} → f ≡ foldingOf k → hasRows f ≡ true → k < 42
+listed {f} {k} e h = go (ltb k 42) refl
+  where
+    go : (b : Bool) → ltb k 42 ≡ b → k < 42
+    go true l = ltb-true k 42 l
+    go false l = absurd (false≢true (sym (ap hasRows (e ∙ List·getD-eq-default classes Folding.Never {n = k} (ltb-false k 42 l))) ∙ h))
 
 carries : (o : Option Value) → valueIn (carried o) ≡ o
 carries none = refl
@@ -193,14 +218,16 @@ module _ (g : Graph) (n : ℕ) where
         abbrev gate : Folding → Offer
         gate x = literalOffer (gateValue g (nd .class) (map (resolveDataInput g n ports) (inputPorts x)))
 
-        pub unary : f ≡ Folding.Unary → gate Folding.Unary ≡ offered
+        gates : (x : Folding) → f ≡ x → IsGate x → gate x ≡ offered
         unfolding byItself foldingOffer gateOffer
-        unary k = ap gate (sym k ∙ class) ∙ (rw k at by-folding)
+        gates Folding.Never k h = absurd (miss (5 ∷ 6 ∷ 7 ∷ []) 0 tt h)
+        gates Folding.Literal k h = absurd (miss (5 ∷ 6 ∷ 7 ∷ []) 1 tt h)
+        gates Folding.Microchip k h = absurd (miss (5 ∷ 6 ∷ 7 ∷ []) 2 tt h)
+        gates Folding.Select k h = absurd (miss (5 ∷ 6 ∷ 7 ∷ []) 3 tt h)
+        gates Folding.Branch k h = absurd (miss (5 ∷ 6 ∷ 7 ∷ []) 4 tt h)
+        gates Folding.Unary k h = ap gate (sym k ∙ class) ∙ (rw k at by-folding)
+        gates Folding.Binary k h = ap gate (sym k ∙ class) ∙ (rw k at by-folding)
+        gates Folding.Ternary k h = ap gate (sym k ∙ class) ∙ (rw k at by-folding)
 
-        pub binary : f ≡ Folding.Binary → gate Folding.Binary ≡ offered
-        unfolding byItself foldingOffer gateOffer
-        binary k = ap gate (sym k ∙ class) ∙ (rw k at by-folding)
-
-        pub ternary : f ≡ Folding.Ternary → gate Folding.Ternary ≡ offered
-        unfolding byItself foldingOffer gateOffer
-        ternary k = ap gate (sym k ∙ class) ∙ (rw k at by-folding)
+        pub any-gate : IsGate f → gate f ≡ offered
+        any-gate h = gates f refl h

@@ -1,20 +1,24 @@
 -- What the functions behind a trial give, in the model's terms.
 use Prim.Native.Nat.{ℕ}
 use mathlib.Core.Path.{_≡_}
-use mathlib.Core.Bool.{cond}
-use mathlib.Core.Option.{Option, none}
-use mathlib.Core.List.{[], _∷_}
-use Rattle.value.specs.declared.Value.{Value}
-use Rattle.value.specs.declared.Operand.{Operand}
-use Rattle.semantics.specs.Eval.{evalOf}
+use mathlib.Core.Bool.{Bool, _&&_}
+use mathlib.Core.List.{List, [], _∷_, map}
+use Rattle.ir.specs.Ports.{inputA, inputB, thirdInput}
 use Rattle.graph.specs.Graph.{Graph}
-use Rattle.model.specs.Offer.{Offer, covers, plannable}
+use Rattle.model.specs.Inputs.{allResolved, operandOf}
+use Rattle.model.specs.Offer.{Offer, covers}
+use Rattle.model.specs.declared.Resolved.{Resolved}
+use Rattle.inputs.specs.Inputs.{inputIf}
 use Rattle.state.specs.Trials.{offerOf, Within}
 use Rattle.state.specs.declared.Trial.{Trial}
 
--- the gate's value for operands whose row is in the table
-unfoldable pub covered : Graph → ℕ → Operand → Operand → Operand → Option Value
-covered g class a b c = cond (covers g class (a ∷ b ∷ c ∷ [])) (plannable (evalOf class a b c)) none
+-- the inputs of a gate of one to three, by what its ports have; Unwired stands for those that it does not have
+abbrev pub gateInputs : (ℕ → Resolved) → Bool → Bool → List Resolved
+gateInputs port second third = port inputA ∷ inputIf second (port inputB) ∷ inputIf third (port thirdInput) ∷ []
+
+-- "no input Unresolved and the row in the table"
+abbrev pub covered : Graph → ℕ → List Resolved → Bool
+covered g class is = allResolved is && covers g class (map operandOf is)
 
 -- the trial gives node n this offer
 pub record Gives (g : Graph) (n : ℕ) (o : Offer) (t : Trial) : Type 0 where

@@ -3,30 +3,32 @@ use graph::Counts;
 use graph::SLOTS;
 use ir::limit;
 use ir::port;
+use ir::variant;
 use model::Resolved;
 use state::Trial;
 use state::WORDS;
 use table::AnnihilatorKind;
+use table::CELLS;
 use table::OptionAnnihilator;
 use value::Operand;
 use value::OptionValue;
 use value::Value;
 ghost use mathlib.Core.Path.{_≡_};
 ghost use mathlib.Core.Bool.{Bool};
-ghost use mathlib.Core.List.{[], _∷_, map};
-ghost use Prim.Native.Nat.{ℕ, _<_};
-ghost use Rattle.ir.specs.Classes.{inputPorts};
-ghost use Rattle.ir.specs.declared.Folding.{Folding as Fold};
+ghost use mathlib.Core.List.{List, [], _∷_};
+ghost use Prim.Native.Nat.{ℕ, _≤_, _<_};
+ghost use Rattle.ir.specs.Ports.{valuePort};
 ghost use mathlib.Core.Option.{some};
 ghost use Rattle.graph.specs.Graph.{Graph, countsOf};
 ghost use Rattle.graph.specs.Decode.{graphOf};
-ghost use Rattle.records.specs.Access.{rowsOf};
+ghost use Rattle.table.specs.Table.{Cells};
+ghost use Rattle.semantics.specs.Eval.{evalOf};
 ghost use Rattle.semantics.specs.Finite.{nonFiniteFloat};
-ghost use Rattle.model.specs.Inputs.{size, optional};
-ghost use Rattle.model.specs.Offer.{evaluated, annihilator, isBool, holdsBool, settled, gateValue, literalOffer};
+ghost use Rattle.model.specs.Inputs.{size, optional, operandOf};
+ghost use Rattle.model.specs.Offer.{plannable, evaluated, annihilator, isBool, holdsBool, settled, gateValue, literalOffer};
 ghost use Rattle.resolve.specs.Reads.{Reads};
-ghost use Rattle.inputs.specs.Inputs.{portOf};
-ghost use Rattle.resolve.specs.Gives.{covered, Gives};
+ghost use Rattle.inputs.specs.Inputs.{Inputs, portOf, inputIf, variantIn};
+ghost use Rattle.resolve.specs.Gives.{gateInputs, covered, Gives};
 
 fn is_non_finite(v: Value) -> bool
     ensures { λ r. ⌜ r ≡ nonFiniteFloat v ⌝ }
@@ -56,31 +58,175 @@ fn is_non_finite(v: Value) -> bool
     }
 }
 
-// The value that a gate gives of operands whose row is in the table, if it is not a non-finite Float.
-fn evaluate_operands(rows: &[u8], class: u8, a: Operand, b: Operand, c: Operand) -> OptionValue
-    ensures { λ r. ⌜ ((g : Graph) → rowsOf (now (rows .entry)) ≡ g .rows → optional r ≡ covered g class a b c) ⌝ }
+// The variant of what a gate has at a port; Unwired where it has no such input.
+fn variant_if(
+    has: bool,
+    input: &[u8],
+    table: &[u16; SLOTS],
+    wires: &[u8],
+    first: &[u16; SLOTS],
+    next: &[u16; limit::WIRES],
+    kinds: &[u8; limit::NODES],
+    n: usize,
+    port: u8,
+) -> u8
+    requires { ⌜ Inputs (graphOf (now input)) (now input) (now table) (now wires) (now first) (now next) × (n < size (graphOf (now input))) × (port ≤ valuePort) ⌝ }
+    ensures { λ r. ⌜ ((words : List ℕ) → r ≡ variantIn (inputIf has (portOf (now (input .entry)) (now (kinds .entry)) words n port))) ⌝ }
 {
-    if inputs::covers(rows, class, a, b, c) {
-        let OptionValue::Some(v) = semantics::eval_in(class, a, b, c) else {
-            return OptionValue::None;
-        };
-        if is_non_finite(v) {
-            return OptionValue::None;
-        }
-        return OptionValue::Some(v);
+    if has {
+        inputs::variant_at(input, table, wires, first, next, kinds, n, port)
+    } else {
+        variant::UNWIRED
     }
-    OptionValue::None
 }
 
-// The same of inputs none of which is Unresolved.
-fn evaluate(rows: &[u8], class: u8, a: Resolved, b: Resolved, c: Resolved) -> OptionValue
-    ensures { λ r. ⌜ ((g : Graph) → rowsOf (now (rows .entry)) ≡ g .rows → optional r ≡ evaluated g class (a ∷ b ∷ c ∷ [])) ⌝ }
+// What a gate has at a port.
+fn input_if(
+    has: bool,
+    input: &[u8],
+    table: &[u16; SLOTS],
+    wires: &[u8],
+    first: &[u16; SLOTS],
+    next: &[u16; limit::WIRES],
+    kinds: &[u8; limit::NODES],
+    words: &[u64; WORDS],
+    n: usize,
+    port: u8,
+) -> Resolved
+    requires { ⌜ Inputs (graphOf (now input)) (now input) (now table) (now wires) (now first) (now next) × (n < size (graphOf (now input))) × (port ≤ valuePort) ⌝ }
+    ensures { λ r. ⌜ r ≡ inputIf has (portOf (now (input .entry)) (now (kinds .entry)) (now (words .entry)) n port) ⌝ }
 {
-    if inputs::is_resolved(a) & inputs::is_resolved(b) & inputs::is_resolved(c) {
-        let x = inputs::operand_of(a);
-        let y = inputs::operand_of(b);
-        let z = inputs::operand_of(c);
-        return evaluate_operands(rows, class, x, y, z);
+    if has {
+        inputs::resolve_data_input(input, table, wires, first, next, kinds, words, n, port)
+    } else {
+        Resolved::Unwired
+    }
+}
+
+// Whether no input of a gate is Unresolved, and the table has their row.
+fn is_covered(
+    input: &[u8],
+    table: &[u16; SLOTS],
+    wires: &[u8],
+    first: &[u16; SLOTS],
+    next: &[u16; limit::WIRES],
+    kinds: &[u8; limit::NODES],
+    rows: &[bool; CELLS],
+    n: usize,
+    class: u8,
+    second: bool,
+    third: bool,
+) -> bool
+    requires { ⌜ Inputs (graphOf (now input)) (now input) (now table) (now wires) (now first) (now next) × (n < size (graphOf (now input))) × Cells (graphOf (now input) .rows) (now rows) × (class < 42) ⌝ }
+    ensures { λ r. ⌜ ((words : List ℕ) → r ≡ covered (graphOf (now (input .entry))) class (gateInputs (portOf (now (input .entry)) (now (kinds .entry)) words n) second third)) ⌝ }
+{
+    let a = inputs::variant_at(input, table, wires, first, next, kinds, n, port::INPUT_A);
+    let b = variant_if(
+        second,
+        input,
+        table,
+        wires,
+        first,
+        next,
+        kinds,
+        n,
+        port::INPUT_B,
+    );
+    let c = variant_if(
+        third,
+        input,
+        table,
+        wires,
+        first,
+        next,
+        kinds,
+        n,
+        port::THIRD_INPUT,
+    );
+    table::covers(rows, class, a, b, c)
+}
+
+// The value that a gate gives of operands, if it is not a non-finite Float.
+fn evaluate_operands(class: u8, a: Operand, b: Operand, c: Operand) -> OptionValue
+    ensures { λ r. ⌜ optional r ≡ plannable (evalOf class a b c) ⌝ }
+{
+    let OptionValue::Some(v) = semantics::eval_in(class, a, b, c) else {
+        return OptionValue::None;
+    };
+    if is_non_finite(v) {
+        return OptionValue::None;
+    }
+    OptionValue::Some(v)
+}
+
+// The value that a gate gives of its inputs, where they are covered. `second` and `third` say whether it has these.
+fn evaluate(
+    input: &[u8],
+    table: &[u16; SLOTS],
+    wires: &[u8],
+    first: &[u16; SLOTS],
+    next: &[u16; limit::WIRES],
+    kinds: &[u8; limit::NODES],
+    words: &[u64; WORDS],
+    rows: &[bool; CELLS],
+    n: usize,
+    class: u8,
+    second: bool,
+    third: bool,
+) -> OptionValue
+    requires { ⌜ Inputs (graphOf (now input)) (now input) (now table) (now wires) (now first) (now next) × (n < size (graphOf (now input))) × Cells (graphOf (now input) .rows) (now rows) × (class < 42) ⌝ }
+    ensures { λ r. ⌜ optional r ≡ evaluated (graphOf (now (input .entry))) class (gateInputs (portOf (now (input .entry)) (now (kinds .entry)) (now (words .entry)) n) second third) ⌝ }
+{
+    if is_covered(
+        input,
+        table,
+        wires,
+        first,
+        next,
+        kinds,
+        rows,
+        n,
+        class,
+        second,
+        third,
+    ) {
+        let a = inputs::operand_if(
+            true,
+            input,
+            table,
+            wires,
+            first,
+            next,
+            kinds,
+            words,
+            n,
+            port::INPUT_A,
+        );
+        let b = inputs::operand_if(
+            second,
+            input,
+            table,
+            wires,
+            first,
+            next,
+            kinds,
+            words,
+            n,
+            port::INPUT_B,
+        );
+        let c = inputs::operand_if(
+            third,
+            input,
+            table,
+            wires,
+            first,
+            next,
+            kinds,
+            words,
+            n,
+            port::THIRD_INPUT,
+        );
+        return evaluate_operands(class, a, b, c);
     }
     OptionValue::None
 }
@@ -155,40 +301,27 @@ fn become_literal(value: OptionValue) -> Trial
     Trial::BecomeLiteral(v)
 }
 
-// A gate by its inputs: what it gives, or else the Bool that settles it, as literal.
-fn try_resolve_gate(
-    rows: &[u8],
+// The Bool that settles a gate which gives no value, as literal.
+fn settle_gate(
+    input: &[u8],
     counts: Counts,
+    table: &[u16; SLOTS],
+    wires: &[u8],
+    first: &[u16; SLOTS],
+    next: &[u16; limit::WIRES],
+    kinds: &[u8; limit::NODES],
+    words: &[u64; WORDS],
+    n: usize,
     class: u8,
-    a: Resolved,
-    b: Resolved,
-    c: Resolved,
+    second: bool,
+    third: bool,
 ) -> Trial
-    ensures { λ r. ⌜ ((g : Graph) (n : ℕ) → rowsOf (now (rows .entry)) ≡ g .rows → counts ≡ countsOf g → Gives g n (literalOffer (gateValue g class (a ∷ b ∷ c ∷ []))) r) ⌝ }
+    requires { ⌜ Inputs (graphOf (now input)) (now input) (now table) (now wires) (now first) (now next) × (n < size (graphOf (now input))) × (counts ≡ countsOf (graphOf (now input))) ⌝ }
+    ensures { λ r. ⌜ Gives (graphOf (now (input .entry))) n (literalOffer (settled (annihilator (graphOf (now (input .entry))) class) (gateInputs (portOf (now (input .entry)) (now (kinds .entry)) (now (words .entry)) n) second third))) r ⌝ }
 {
-    let OptionValue::Some(v) = evaluate(rows, class, a, b, c) else {
-        return become_literal(annihilate(counts, class, a, b, c));
+    let OptionAnnihilator::Some(_) = table::annihilator(counts, class) else {
+        return Trial::Nothing;
     };
-    Trial::BecomeLiteral(v)
-}
-
-// Gates of one, two and three inputs.
-pub fn unary(
-    input: &[u8],
-    counts: Counts,
-    table: &[u16; SLOTS],
-    wires: &[u8],
-    rows: &[u8],
-    first: &[u16; SLOTS],
-    next: &[u16; limit::WIRES],
-    kinds: &[u8; limit::NODES],
-    words: &[u64; WORDS],
-    n: usize,
-    class: u8,
-) -> Trial
-    requires { ⌜ Reads (graphOf (now input)) counts (now input) (now table) (now wires) (now rows) (now first) (now next) × (n < size (graphOf (now input))) ⌝ }
-    ensures { λ r. ⌜ Gives (graphOf (now (input .entry))) n (literalOffer (gateValue (graphOf (now (input .entry))) class (map (portOf (now (input .entry)) (now (kinds .entry)) (now (words .entry)) n) (inputPorts Fold.Unary)))) r ⌝ }
-{
     let a = inputs::resolve_data_input(
         input,
         table,
@@ -200,37 +333,8 @@ pub fn unary(
         n,
         port::INPUT_A,
     );
-    try_resolve_gate(rows, counts, class, a, Resolved::Unwired, Resolved::Unwired)
-}
-
-pub fn binary(
-    input: &[u8],
-    counts: Counts,
-    table: &[u16; SLOTS],
-    wires: &[u8],
-    rows: &[u8],
-    first: &[u16; SLOTS],
-    next: &[u16; limit::WIRES],
-    kinds: &[u8; limit::NODES],
-    words: &[u64; WORDS],
-    n: usize,
-    class: u8,
-) -> Trial
-    requires { ⌜ Reads (graphOf (now input)) counts (now input) (now table) (now wires) (now rows) (now first) (now next) × (n < size (graphOf (now input))) ⌝ }
-    ensures { λ r. ⌜ Gives (graphOf (now (input .entry))) n (literalOffer (gateValue (graphOf (now (input .entry))) class (map (portOf (now (input .entry)) (now (kinds .entry)) (now (words .entry)) n) (inputPorts Fold.Binary)))) r ⌝ }
-{
-    let a = inputs::resolve_data_input(
-        input,
-        table,
-        wires,
-        first,
-        next,
-        kinds,
-        words,
-        n,
-        port::INPUT_A,
-    );
-    let b = inputs::resolve_data_input(
+    let b = input_if(
+        second,
         input,
         table,
         wires,
@@ -241,48 +345,8 @@ pub fn binary(
         n,
         port::INPUT_B,
     );
-    try_resolve_gate(rows, counts, class, a, b, Resolved::Unwired)
-}
-
-pub fn ternary(
-    input: &[u8],
-    counts: Counts,
-    table: &[u16; SLOTS],
-    wires: &[u8],
-    rows: &[u8],
-    first: &[u16; SLOTS],
-    next: &[u16; limit::WIRES],
-    kinds: &[u8; limit::NODES],
-    words: &[u64; WORDS],
-    n: usize,
-    class: u8,
-) -> Trial
-    requires { ⌜ Reads (graphOf (now input)) counts (now input) (now table) (now wires) (now rows) (now first) (now next) × (n < size (graphOf (now input))) ⌝ }
-    ensures { λ r. ⌜ Gives (graphOf (now (input .entry))) n (literalOffer (gateValue (graphOf (now (input .entry))) class (map (portOf (now (input .entry)) (now (kinds .entry)) (now (words .entry)) n) (inputPorts Fold.Ternary)))) r ⌝ }
-{
-    let a = inputs::resolve_data_input(
-        input,
-        table,
-        wires,
-        first,
-        next,
-        kinds,
-        words,
-        n,
-        port::INPUT_A,
-    );
-    let b = inputs::resolve_data_input(
-        input,
-        table,
-        wires,
-        first,
-        next,
-        kinds,
-        words,
-        n,
-        port::INPUT_B,
-    );
-    let c = inputs::resolve_data_input(
+    let c = input_if(
+        third,
         input,
         table,
         wires,
@@ -293,5 +357,56 @@ pub fn ternary(
         n,
         port::THIRD_INPUT,
     );
-    try_resolve_gate(rows, counts, class, a, b, c)
+    become_literal(annihilate(counts, class, a, b, c))
+}
+
+// A gate by its inputs: what it gives, or else the Bool that settles it, as literal. `second` and `third` say whether it has these inputs.
+pub fn try_resolve_gate(
+    input: &[u8],
+    counts: Counts,
+    table: &[u16; SLOTS],
+    wires: &[u8],
+    rows: &[bool; CELLS],
+    first: &[u16; SLOTS],
+    next: &[u16; limit::WIRES],
+    kinds: &[u8; limit::NODES],
+    words: &[u64; WORDS],
+    n: usize,
+    class: u8,
+    second: bool,
+    third: bool,
+) -> Trial
+    requires { ⌜ Reads (graphOf (now input)) counts (now input) (now table) (now wires) (now rows) (now first) (now next) × (n < size (graphOf (now input))) × (class < 42) ⌝ }
+    ensures { λ r. ⌜ Gives (graphOf (now (input .entry))) n (literalOffer (gateValue (graphOf (now (input .entry))) class (gateInputs (portOf (now (input .entry)) (now (kinds .entry)) (now (words .entry)) n) second third))) r ⌝ }
+{
+    let OptionValue::Some(v) = evaluate(
+        input,
+        table,
+        wires,
+        first,
+        next,
+        kinds,
+        words,
+        rows,
+        n,
+        class,
+        second,
+        third,
+    ) else {
+        return settle_gate(
+            input,
+            counts,
+            table,
+            wires,
+            first,
+            next,
+            kinds,
+            words,
+            n,
+            class,
+            second,
+            third,
+        );
+    };
+    Trial::BecomeLiteral(v)
 }

@@ -14,6 +14,7 @@ use model::Resolved;
 use records::access;
 use state::Trial;
 use state::WORDS;
+use table::CELLS;
 use value::OptionValue;
 ghost use mathlib.Core.Path.{_≡_};
 ghost use mathlib.Core.Bool.{cond};
@@ -21,7 +22,7 @@ ghost use Prim.Native.Nat.{ℕ, _≤_, _<_};
 ghost use Rattle.ir.specs.Ports.{inputA, inputB, bSelectB, bCond, execOutA, execOutB, valuePort};
 ghost use Rattle.graph.specs.Graph.{Graph};
 ghost use Rattle.graph.specs.Decode.{graphOf};
-ghost use Rattle.records.specs.Access.{rowsOf};
+ghost use Rattle.table.specs.Table.{Cells};
 ghost use Rattle.model.specs.Inputs.{size, optional, valueIn};
 ghost use Rattle.model.specs.Offer.{offer, literals, valueOffer, selectOffer, branchOffer, resolveCondition};
 ghost use Rattle.state.specs.Held.{knownOf};
@@ -71,7 +72,7 @@ fn try_resolve_select(
     input: &[u8],
     table: &[u16; SLOTS],
     wires: &[u8],
-    rows: &[u8],
+    rows: &[bool; CELLS],
     first: &[u16; SLOTS],
     next: &[u16; limit::WIRES],
     kinds: &[u8; limit::NODES],
@@ -79,7 +80,7 @@ fn try_resolve_select(
     n: usize,
     class: u8,
 ) -> Trial
-    requires { ⌜ Inputs (graphOf (now input)) (now input) (now table) (now wires) (now first) (now next) × (rowsOf (now rows) ≡ graphOf (now input) .rows) × (n < size (graphOf (now input))) ⌝ }
+    requires { ⌜ Inputs (graphOf (now input)) (now input) (now table) (now wires) (now first) (now next) × Cells (graphOf (now input) .rows) (now rows) × (class < 42) × (n < size (graphOf (now input))) ⌝ }
     ensures { λ r. ⌜ Gives (graphOf (now (input .entry))) n (selectOffer (graphOf (now (input .entry))) n (wiredPort (now (input .entry)) (now (kinds .entry)) (now (words .entry)) n) (resolveCondition (graphOf (now (input .entry))) class (portOf (now (input .entry)) (now (kinds .entry)) (now (words .entry)) n bSelectB))) r ⌝ }
 {
     let OptionBool::Some(truthy) = inputs::resolve_condition(
@@ -111,7 +112,7 @@ fn try_resolve_branch(
     input: &[u8],
     table: &[u16; SLOTS],
     wires: &[u8],
-    rows: &[u8],
+    rows: &[bool; CELLS],
     first: &[u16; SLOTS],
     next: &[u16; limit::WIRES],
     kinds: &[u8; limit::NODES],
@@ -119,7 +120,7 @@ fn try_resolve_branch(
     n: usize,
     class: u8,
 ) -> Trial
-    requires { ⌜ Inputs (graphOf (now input)) (now input) (now table) (now wires) (now first) (now next) × (rowsOf (now rows) ≡ graphOf (now input) .rows) × (n < size (graphOf (now input))) ⌝ }
+    requires { ⌜ Inputs (graphOf (now input)) (now input) (now table) (now wires) (now first) (now next) × Cells (graphOf (now input) .rows) (now rows) × (class < 42) × (n < size (graphOf (now input))) ⌝ }
     ensures { λ r. ⌜ Gives (graphOf (now (input .entry))) n (branchOffer (graphOf (now (input .entry))) n (resolveCondition (graphOf (now (input .entry))) class (portOf (now (input .entry)) (now (kinds .entry)) (now (words .entry)) n bCond))) r ⌝ }
 {
     let OptionBool::Some(truthy) = inputs::resolve_condition(
@@ -147,7 +148,7 @@ pub fn try_resolve(
     counts: Counts,
     table: &[u16; SLOTS],
     wires: &[u8],
-    rows: &[u8],
+    rows: &[bool; CELLS],
     first: &[u16; SLOTS],
     next: &[u16; limit::WIRES],
     kinds: &[u8; limit::NODES],
@@ -162,7 +163,9 @@ pub fn try_resolve(
         return Trial::Nothing;
     }
     let class = node.class;
-    match class::folding_of(class) {
+    let folding = class::folding_of(class);
+    let count = class::input_count(folding);
+    match folding {
         Folding::Never => Trial::Nothing,
         Folding::Literal => known(access::property(input, table, n, port::VALUE)),
         Folding::Microchip => passed(inputs::resolve_input(
@@ -198,7 +201,7 @@ pub fn try_resolve(
             n,
             class,
         ),
-        Folding::Unary => gates::unary(
+        _ => gates::try_resolve_gate(
             input,
             counts,
             table,
@@ -210,32 +213,8 @@ pub fn try_resolve(
             words,
             n,
             class,
-        ),
-        Folding::Binary => gates::binary(
-            input,
-            counts,
-            table,
-            wires,
-            rows,
-            first,
-            next,
-            kinds,
-            words,
-            n,
-            class,
-        ),
-        Folding::Ternary => gates::ternary(
-            input,
-            counts,
-            table,
-            wires,
-            rows,
-            first,
-            next,
-            kinds,
-            words,
-            n,
-            class,
+            1 < count,
+            2 < count,
         ),
     }
 }

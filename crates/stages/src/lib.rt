@@ -6,6 +6,7 @@ use graph::refusals;
 use ir::limit;
 use records::access;
 use state::WORDS;
+use table::CELLS;
 use worklist::Worked;
 ghost use mathlib.Core.Path.{_≡_};
 ghost use Rattle.graph.specs.Decode.{decode, graphOf};
@@ -29,7 +30,8 @@ fn count_pops(
     requires { ⌜ Indexes (now input) counts (now table) (now wires) (now «feeds_first») (now «feeds_next») (now first) (now next) ⌝ }
     ensures { λ r. ⌜ r ≡ foldOf (graphOf (now (input .entry))) .pops ⌝ }
 {
-    let rows = access::rows(input, counts);
+    let mut rows = [false; CELLS];
+    table::index_rows(access::rows(input, counts), &mut rows);
     let mut kinds = [0u8; limit::NODES];
     let mut words = [0u64; WORDS];
     let mut actions = [0u8; limit::NODES];
@@ -39,7 +41,7 @@ fn count_pops(
         counts,
         table,
         wires,
-        rows,
+        &rows,
         feeds_first,
         feeds_next,
         first,

@@ -1,14 +1,17 @@
 // The table of rows that comes with each graph, and the graph's annihilators.
 use graph::Counts;
 use ir::class;
+use ir::variant;
 use records::access;
 ghost use mathlib.Core.Path.{_≡_};
-ghost use mathlib.Core.Bool.{_||_};
+ghost use mathlib.Core.Bool.{true, _&&_};
+ghost use mathlib.Core.List.{List, [], _∷_, _++_};
 ghost use lib.ListN.{length, getD};
+ghost use Rattle.graph.specs.declared.Row.{Row};
 ghost use Prim.Native.Nat.{_<_};
 ghost use Rattle.graph.specs.Graph.{Graph, countsOf};
 ghost use Rattle.records.specs.Access.{rowsOf, noRow};
-ghost use Rattle.table.specs.Table.{covers as coversOf, isRow, annihilatorOf};
+ghost use Rattle.table.specs.Table.{covers as coversOf, hasCell, cellOf, Cells, annihilatorOf};
 
 // The Bool that settles a gate: a false an AND, a true an OR.
 pub enum AnnihilatorKind {
@@ -21,27 +24,67 @@ pub enum OptionAnnihilator {
     Some(AnnihilatorKind),
 }
 
-// Whether the k-th of a run of row records is this row.
-fn is_row(rows: &[u8], k: usize, class: u8, first: u8, second: u8, third: u8) -> bool
-    requires { ⌜ k < length (rowsOf (now rows)) ⌝ }
-    ensures { λ r. ⌜ r ≡ isRow (getD (rowsOf (now (rows .entry))) k noRow) (record { class = class; first = first; second = second; third = third }) ⌝ }
+// How many cells the table of rows has: one for each class and three variants.
+pub const CELLS: usize = 21504;
+
+fn wide(x: u8) -> usize
+    ensures { λ r. ⌜ r ≡ x ⌝ }
 {
-    let row = access::row(rows, k);
-    (row.class == class) & (row.first == first) & (row.second == second) & (row.third == third)
+    x as usize
 }
 
-// Whether a run of row records has this row.
-pub fn covers(rows: &[u8], class: u8, first: u8, second: u8, third: u8) -> bool
-    ensures { λ r. ⌜ r ≡ coversOf (rowsOf (now (rows .entry))) (record { class = class; first = first; second = second; third = third }) ⌝ }
+// Whether a row has a cell.
+fn has_cell(class: u8, first: u8, second: u8, third: u8) -> bool
+    ensures { λ r. ⌜ r ≡ hasCell (record { class = class; first = first; second = second; third = third }) ⌝ }
 {
+    (wide(class) < class::COUNT)
+        & (first <= variant::COLOR)
+        & (second <= variant::COLOR)
+        & (third <= variant::COLOR)
+}
+
+// The cell of a row.
+fn cell_of(class: u8, first: u8, second: u8, third: u8) -> usize
+    requires { ⌜ hasCell (record { class = class; first = first; second = second; third = third }) ≡ true ⌝ }
+    ensures { λ r. ⌜ (r ≡ cellOf (record { class = class; first = first; second = second; third = third })) × (r < 21504) ⌝ }
+{
+    ((wide(class) * 8 + wide(first)) * 8 + wide(second)) * 8 + wide(third)
+}
+
+// Marks the cell of the k-th of a run of row records.
+fn mark(rows: &[u8], k: usize, cells: &mut [bool; CELLS])
+    requires { ⌜ k < length (rowsOf (now rows)) ⌝ }
+    ensures { λ _. ⌜ ((before : List Row) → Cells before (now (cells .entry)) → Cells (before ++ (getD (rowsOf (now (rows .entry))) k noRow ∷ [])) (now (cells .exit))) ⌝ }
+{
+    let row = access::row(rows, k);
+    if has_cell(row.class, row.first, row.second, row.third) {
+        let i = cell_of(row.class, row.first, row.second, row.third);
+        cells[i] = true;
+    }
+}
+
+// Marks the cells of a run of row records, and no others.
+pub fn index_rows(rows: &[u8], cells: &mut [bool; CELLS])
+    ensures { λ _. ⌜ Cells (rowsOf (now (rows .entry))) (now (cells .exit)) ⌝ }
+{
+    *cells = [false; CELLS];
     let n = rows.len() / access::ROW_SIZE;
-    let mut found = false;
     let mut k: usize = 0;
     while k < n {
-        found = found | is_row(rows, k, class, first, second, third);
+        mark(rows, k, cells);
         k = k + 1;
     }
-    found
+}
+
+// Whether the table has this row. A row without a cell is in no table.
+pub fn covers(cells: &[bool; CELLS], class: u8, first: u8, second: u8, third: u8) -> bool
+    ensures { λ r. ⌜ ((rows : List Row) → Cells rows (now (cells .entry)) → r ≡ (hasCell (record { class = class; first = first; second = second; third = third }) && coversOf rows (record { class = class; first = first; second = second; third = third }))) ⌝ }
+{
+    if has_cell(class, first, second, third) {
+        let i = cell_of(class, first, second, third);
+        return cells[i];
+    }
+    false
 }
 
 // The annihilator of a class in the graph that was counted.

@@ -8,6 +8,7 @@ use graph::Counts;
 use graph::SLOTS;
 use ir::limit;
 use state::WORDS;
+use table::CELLS;
 ghost use Prim.Native.Nat.{_<_};
 ghost use Rattle.graph.specs.Decode.{graphOf};
 ghost use Rattle.model.specs.Inputs.{size};
@@ -28,7 +29,7 @@ fn turn(
     counts: Counts,
     table: &[u16; SLOTS],
     wires: &[u8],
-    rows: &[u8],
+    rows: &[bool; CELLS],
     feeds_first: &[u16; SLOTS],
     feeds_next: &[u16; limit::WIRES],
     first: &[u16; limit::NODES],
@@ -75,7 +76,7 @@ pub fn run(
     counts: Counts,
     table: &[u16; SLOTS],
     wires: &[u8],
-    rows: &[u8],
+    rows: &[bool; CELLS],
     feeds_first: &[u16; SLOTS],
     feeds_next: &[u16; limit::WIRES],
     first: &[u16; limit::NODES],

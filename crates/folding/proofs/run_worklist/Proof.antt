@@ -18,8 +18,11 @@ use Rattle.folding.proofs.run_worklist.Tie as tie
 rows-requires : tie.Need-rows-requires
 rows-requires c κs = c .before .before .before .pre .accepts
 
+index-rows-requires : tie.Need-index-rows-requires
+index-rows-requires c κs = search needs
+
 run-requires : tie.Need-run-requires
-run-requires c κs = (reads-at (c .before .before .before .before .before .before .before .before .pre) (c .before .before .before .before .rows .ensures), c .before .before .before .before .before .before .before .before .pre .consumers)
+run-requires c κs = (reads-at (c .before .before .before .before .before .before .before .before .before .before .before .pre) (c .before .before .before .before .before .before .before .rows .ensures) (c .before .before .before .before .before .index-rows .ensures), c .before .before .before .before .before .before .before .before .before .before .before .pre .consumers)
 
 enum-known-pops : tie.Need-enum-known-pops
 enum-known-pops c = search needs
@@ -28,12 +31,12 @@ enum-told : tie.Need-enum-told
 enum-told c = search needs
 
 returns : tie.Need-returns
-returns c = never-full-at (c .before .before .before .before .before .before .before .before .before .before .before .pre) (subst (λ (w : Worked). Ran (graphOf (now (c .before .before .before .before .before .before .before .before .before .before .before .args .input))) (c .before .before .run .last .1 .1 .1 .1 .1 .1 .1 .1 .1 .0) (c .before .before .run .last .1 .1 .1 .1 .1 .1 .1 .1 .1 .1 .0) (c .before .before .run .last .1 .1 .1 .1 .1 .1 .1 .1 .1 .1 .1 .0) (c .before .before .run .last .1 .1 .1 .1 .1 .1 .1 .1 .1 .1 .1 .1 .0) w) (c .enum-told .given .1) (c .before .before .run .ensures))
+returns c = never-full-at (c .before .before .before .before .before .before .before .before .before .before .before .before .before .before .pre) (subst (λ (w : Worked). Ran (graphOf (now (c .before .before .before .before .before .before .before .before .before .before .before .before .before .before .args .input))) (c .before .before .run .last .1 .1 .1 .1 .1 .1 .1 .1 .1 .0) (c .before .before .run .last .1 .1 .1 .1 .1 .1 .1 .1 .1 .1 .0) (c .before .before .run .last .1 .1 .1 .1 .1 .1 .1 .1 .1 .1 .1 .0) (c .before .before .run .last .1 .1 .1 .1 .1 .1 .1 .1 .1 .1 .1 .1 .0) w) (c .enum-told .given .1) (c .before .before .run .ensures))
 
 rewrite-graph-requires : tie.Need-rewrite-graph-requires
 rewrite-graph-requires c κs =
-    let F = subst (λ (w : Worked). Ran (graphOf (now (c .before .before .before .before .before .before .before .before .before .before .before .before .before .before .before .before .before .args .input))) (c .before .before .before .before .before .before .before .before .run .last .1 .1 .1 .1 .1 .1 .1 .1 .1 .0) (c .before .before .before .before .before .before .before .before .run .last .1 .1 .1 .1 .1 .1 .1 .1 .1 .1 .0) (c .before .before .before .before .before .before .before .before .run .last .1 .1 .1 .1 .1 .1 .1 .1 .1 .1 .1 .0) (c .before .before .before .before .before .before .before .before .run .last .1 .1 .1 .1 .1 .1 .1 .1 .1 .1 .1 .1 .0) w) (c .before .before .before .before .before .before .pops .given .1) (c .before .before .before .before .before .before .before .before .run .ensures) in
-    record { accepts = c .before .before .before .before .before .before .before .before .before .before .before .before .before .before .before .before .before .pre .accepts; holds = F .holds; pops-are = F .pops-are }
+    let F = subst (λ (w : Worked). Ran (graphOf (now (c .before .before .before .before .before .before .before .before .before .before .before .before .before .before .before .before .before .before .before .before .args .input))) (c .before .before .before .before .before .before .before .before .run .last .1 .1 .1 .1 .1 .1 .1 .1 .1 .0) (c .before .before .before .before .before .before .before .before .run .last .1 .1 .1 .1 .1 .1 .1 .1 .1 .1 .0) (c .before .before .before .before .before .before .before .before .run .last .1 .1 .1 .1 .1 .1 .1 .1 .1 .1 .1 .0) (c .before .before .before .before .before .before .before .before .run .last .1 .1 .1 .1 .1 .1 .1 .1 .1 .1 .1 .1 .0) w) (c .before .before .before .before .before .before .pops .given .1) (c .before .before .before .before .before .before .before .before .run .ensures) in
+    record { accepts = c .before .before .before .before .before .before .before .before .before .before .before .before .before .before .before .before .before .before .before .before .pre .accepts; holds = F .holds; pops-are = F .pops-are }
 
 same-length : tie.Need-same-length
 same-length c = search needs
@@ -42,4 +45,4 @@ returns-2 : tie.Need-returns-2
 returns-2 c = c .before .before .rewrite-graph .ensures
 
 pub run-worklist-spec : {M : Type 1} → statement M
-run-worklist-spec = tie.close (tie.spec rows-requires run-requires enum-known-pops enum-told returns rewrite-graph-requires same-length returns-2)
+run-worklist-spec = tie.close (tie.spec rows-requires index-rows-requires run-requires enum-known-pops enum-told returns rewrite-graph-requires same-length returns-2)

@@ -5,7 +5,7 @@ use Rattle.resolve.proofs.try_resolve_branch.Statement.{statement}
 use Rattle.resolve.proofs.try_resolve_branch.Tie as tie
 
 resolve-condition-requires : tie.Need-resolve-condition-requires
-resolve-condition-requires c κs = (c .before .before .before .pre .0, c .before .before .before .pre .1, c .before .before .before .pre .2, omega arith)
+resolve-condition-requires c κs = (let p = c .before .before .pre in (p .0, p .1, p .2, p .3, omega arith))
 
 enum-known-truthy : tie.Need-enum-known-truthy
 enum-known-truthy c = c .match .keys1

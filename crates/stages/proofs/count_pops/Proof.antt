@@ -13,8 +13,11 @@ use Rattle.stages.proofs.count_pops.Tie as tie
 rows-requires : tie.Need-rows-requires
 rows-requires c κs = c .before .before .pre .accepts
 
+index-rows-requires : tie.Need-index-rows-requires
+index-rows-requires c κs = search needs
+
 run-requires : tie.Need-run-requires
-run-requires c κs = (reads-at (c .before .before .before .before .before .before .before .pre) (c .before .before .before .before .rows .ensures), c .before .before .before .before .before .before .before .pre .consumers)
+run-requires c κs = (reads-at (c .before .before .before .before .before .before .before .before .before .before .pre) (c .before .before .before .before .before .before .before .rows .ensures) (c .before .before .before .before .before .index-rows .ensures), c .before .before .before .before .before .before .before .before .before .before .pre .consumers)
 
 enum-known-pops : tie.Need-enum-known-pops
 enum-known-pops c = search needs
@@ -23,10 +26,10 @@ enum-told : tie.Need-enum-told
 enum-told c = search needs
 
 returns : tie.Need-returns
-returns c = never-full-at (c .before .before .before .before .before .before .before .before .before .before .pre) (subst (λ (w : Worked). Ran (graphOf (now (c .before .before .before .before .before .before .before .before .before .before .args .input))) (c .before .before .run .last .1 .1 .1 .1 .1 .1 .1 .1 .1 .0) (c .before .before .run .last .1 .1 .1 .1 .1 .1 .1 .1 .1 .1 .0) (c .before .before .run .last .1 .1 .1 .1 .1 .1 .1 .1 .1 .1 .1 .0) (c .before .before .run .last .1 .1 .1 .1 .1 .1 .1 .1 .1 .1 .1 .1 .0) w) (c .enum-told .given .1) (c .before .before .run .ensures))
+returns c = never-full-at (c .before .before .before .before .before .before .before .before .before .before .before .before .before .pre) (subst (λ (w : Worked). Ran (graphOf (now (c .before .before .before .before .before .before .before .before .before .before .before .before .before .args .input))) (c .before .before .run .last .1 .1 .1 .1 .1 .1 .1 .1 .1 .0) (c .before .before .run .last .1 .1 .1 .1 .1 .1 .1 .1 .1 .1 .0) (c .before .before .run .last .1 .1 .1 .1 .1 .1 .1 .1 .1 .1 .1 .0) (c .before .before .run .last .1 .1 .1 .1 .1 .1 .1 .1 .1 .1 .1 .1 .0) w) (c .enum-told .given .1) (c .before .before .run .ensures))
 
 returns-2 : tie.Need-returns-2
-returns-2 c = subst (λ (w : Worked). Ran (graphOf (now (c .before .before .before .before .before .before .before .before .before .before .before .args .input))) (c .before .before .before .run .last .1 .1 .1 .1 .1 .1 .1 .1 .1 .0) (c .before .before .before .run .last .1 .1 .1 .1 .1 .1 .1 .1 .1 .1 .0) (c .before .before .before .run .last .1 .1 .1 .1 .1 .1 .1 .1 .1 .1 .1 .0) (c .before .before .before .run .last .1 .1 .1 .1 .1 .1 .1 .1 .1 .1 .1 .1 .0) w) (c .before .pops .given .1) (c .before .before .before .run .ensures) .pops-are
+returns-2 c = subst (λ (w : Worked). Ran (graphOf (now (c .before .before .before .before .before .before .before .before .before .before .before .before .before .before .args .input))) (c .before .before .before .run .last .1 .1 .1 .1 .1 .1 .1 .1 .1 .0) (c .before .before .before .run .last .1 .1 .1 .1 .1 .1 .1 .1 .1 .1 .0) (c .before .before .before .run .last .1 .1 .1 .1 .1 .1 .1 .1 .1 .1 .1 .0) (c .before .before .before .run .last .1 .1 .1 .1 .1 .1 .1 .1 .1 .1 .1 .1 .0) w) (c .before .pops .given .1) (c .before .before .before .run .ensures) .pops-are
 
 pub count-pops-spec : {M : Type 1} → statement M
-count-pops-spec = tie.close (tie.spec rows-requires run-requires enum-known-pops enum-told returns returns-2)
+count-pops-spec = tie.close (tie.spec rows-requires index-rows-requires run-requires enum-known-pops enum-told returns returns-2)

@@ -1,36 +1,26 @@
 -- `table::covers` meets its contract.
-use Prim.Native.Nat.{_-_}
-use native.Mathlib.Omega.{arith}
-use Rattle.table.proofs.Search.{Searched, start, further, end}
+use mathlib.Core.Path.{sym, _∙_}
+use Rattle.table.proofs.Search.{looks-up}
+use borrow.Author.Needs.{needs}
 use Rattle.table.proofs.covers.Statement.{statement}
 use Rattle.table.proofs.covers.Tie as tie
 
-abbrev Inv-loop : tie.InvT-loop
-Inv-loop rows class first second third n found₀ k₀ found k =
-    Searched rows (record { class = class; first = first; second = second; third = third }) n k found
+has-cell-requires : tie.Need-has-cell-requires
+has-cell-requires c κs = search needs
 
-abbrev μ-loop : tie.MeasureT-loop
-μ-loop rows class first second third n found₀ k₀ found k = n - k
+cell-of-requires : tie.Need-cell-of-requires
+cell-of-requires c κs = sym (c .before .has-cell .ensures) ∙ c .if1 .taken
 
-loop-holds : tie.Need-loop-holds Inv-loop μ-loop
-loop-holds c = start _ _
+element-copy-out-result : tie.Need-element-copy-out-result
+element-copy-out-result c = search needs
 
-is-row-requires : tie.Need-is-row-requires Inv-loop μ-loop
-is-row-requires c κs = omega (arith, c .before .loop .inv .count)
+returns : tie.Need-returns
+returns c = λ rows m. looks-up rows _ m (c .before .before .before .has-cell .ensures) (c .before .before .if1 .taken) (c .before .cell-of .ensures .0)
 
-add-k : tie.Need-add-k Inv-loop μ-loop
-add-k c = omega arith
-
-loop-less : tie.Need-loop-less Inv-loop μ-loop
-loop-less c = omega arith
-
-loop-again : tie.Need-loop-again Inv-loop μ-loop
-loop-again c = further _ _ _ _ _ _ (c .before .before .loop .inv) (c .before .loop-test .taken) (c .is-row .ensures)
-
-returns : tie.Need-returns Inv-loop μ-loop
-returns c = end _ _ _ _ _ (c .before .loop .inv) (c .loop-test .left)
+returns-2 : tie.Need-returns-2
+returns-2 c = λ rows m. rw (← c .before .has-cell .ensures, c .if1 .left)
 
 pub covers-spec : {M : Type 1} → statement M
 covers-spec =
     tie.close
-    (tie.spec Inv-loop μ-loop loop-holds is-row-requires add-k loop-less loop-again returns)
+    (tie.spec has-cell-requires cell-of-requires element-copy-out-result returns returns-2)

@@ -22,10 +22,10 @@ clear-requires : tie.Need-clear-requires Inv-loop μ-loop
 clear-requires c κs = search needs
 
 start-requires : tie.Need-start-requires Inv-loop μ-loop
-start-requires c κs = let p = c .before .before .before .before .before .before .before .before .before .pre .0 in (nodes-few _ (p .counts) (p .bounded), refl)
+start-requires c κs = let p = c .before .before .before .before .before .before .before .before .pre .0 in (nodes-few _ (p .counts) (p .bounded), refl)
 
 loop-holds : tie.Need-loop-holds Inv-loop μ-loop
-loop-holds c = at-start (c .before .before .before .before .before .before .before .before .before .before .pre .0 .counts) (c .before .before .clear .ensures _) (c .start .ensures)
+loop-holds c = at-start (c .before .before .before .before .before .before .before .before .before .pre .0 .counts) (c .before .before .clear .ensures _) (c .start .ensures)
 
 front-requires : tie.Need-front-requires Inv-loop μ-loop
 front-requires c κs = c .before .before .before .loop .inv .queued .head-in
@@ -38,7 +38,7 @@ turn-requires c κs =
     let r = c .before .before .before .before .before .before in
     let f = r .before in
     let l = f .before .before .before in
-    let p = l .before .before .before .before .before .before .before .before .before .before .before .before .pre in
+    let p = l .before .before .before .before .before .before .before .before .before .before .before .pre in
     (p .0, p .1, at-node (l .before .loop .inv) (p .0 .bounded) (l .loop-test .taken) (f .front .ensures), rest-head (l .before .loop .queue) (r .rest .ensures))
 
 enum-known-waiting : tie.Need-enum-known-waiting Inv-loop μ-loop
@@ -53,7 +53,7 @@ returns c =
     let r = t .before .before .before .before .before .before .before in
     let f = r .before in
     let l = f .before .before .before in
-    let b = l .before .before .before .before .before .before .before .before .before .before .before .before .pre .0 .bounded in
+    let b = l .before .before .before .before .before .before .before .before .before .before .before .pre .0 .bounded in
     at-none (l .before .loop .inv) b (l .loop-test .taken) (f .front .ensures) (r .rest .ensures) (t .turn .ensures) (c .enum-told .given .1)
 
 counted-requires : tie.Need-counted-requires Inv-loop μ-loop
@@ -62,13 +62,13 @@ counted-requires c κs = search needs
 add-pops : tie.Need-add-pops Inv-loop μ-loop
 add-pops c =
     let l = c .before .before .before .before .before .before .before .before .before .before .before .before .before .before .before .before in
-    let b = l .before .before .before .before .before .before .before .before .before .before .before .pre .0 .bounded in
+    let b = l .before .before .before .before .before .before .before .before .before .before .pre .0 .bounded in
     record { fits = omega (arith, at-most (l .loop .inv) b, b .few-nodes, b .few-wires) }
 
 loop-less : tie.Need-loop-less Inv-loop μ-loop
 loop-less c =
     let l = c .before .before .before .before .before .before .before .before .before .before .before .before .before .before .before in
-    omega (arith, at-less (l .before .loop .inv) (l .before .before .before .before .before .before .before .before .before .before .before .before .pre .0 .bounded) (l .loop-test .taken))
+    omega (arith, at-less (l .before .loop .inv) (l .before .before .before .before .before .before .before .before .before .before .before .pre .0 .bounded) (l .loop-test .taken))
 
 loop-again : tie.Need-loop-again Inv-loop μ-loop
 loop-again c =
@@ -76,11 +76,11 @@ loop-again c =
     let r = t .before .before .before .before .before .before .before in
     let f = r .before in
     let l = f .before .before .before in
-    let b = l .before .before .before .before .before .before .before .before .before .before .before .before .pre .0 .bounded in
+    let b = l .before .before .before .before .before .before .before .before .before .before .before .pre .0 .bounded in
     at-next (l .before .loop .inv) b (l .loop-test .taken) (f .front .ensures) (r .rest .ensures) (t .turn .ensures) (c .before .before .waiting .given .1) (c .counted .ensures)
 
 returns-2 : tie.Need-returns-2 Inv-loop μ-loop
-returns-2 c = at-end (c .before .loop .inv) (c .before .before .before .before .before .before .before .before .before .before .before .before .pre .0 .bounded) (omega (arith, c .loop-test .left))
+returns-2 c = at-end (c .before .loop .inv) (c .before .before .before .before .before .before .before .before .before .before .before .pre .0 .bounded) (omega (arith, c .loop-test .left))
 
 pub run-spec : {M : Type 1} → statement M
 run-spec =

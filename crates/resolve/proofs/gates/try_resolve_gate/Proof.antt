@@ -1,39 +1,37 @@
 -- `resolve::gates::try_resolve_gate` meets its contract.
 use mathlib.Core.Path.{sym}
-use Rattle.resolve.proofs.Trials.{becomes-literal}
+use Rattle.resolve.proofs.Trials.{inputs, becomes-literal}
 use Rattle.resolve.proofs.GateValues.{gate-settled, gate-evaluated, same-value}
+use mathlib.Core.Path.{refl}
+use borrow.Author.Needs.{needs}
 use Rattle.resolve.proofs.gates.try_resolve_gate.Statement.{statement}
 use Rattle.resolve.proofs.gates.try_resolve_gate.Tie as tie
 
 evaluate-requires : tie.Need-evaluate-requires
-evaluate-requires c κs = tt
+evaluate-requires c κs =
+    let p = c .before .before .pre in
+    (inputs (p .0), p .1, p .0 .row-cells, p .2)
 
 enum-known-v : tie.Need-enum-known-v
-enum-known-v c = c .match .keys1
+enum-known-v c = search needs
 
 enum-told : tie.Need-enum-told
-enum-told c = c .match .keys2
+enum-told c = search needs
 
-annihilate-requires : tie.Need-annihilate-requires
-annihilate-requires c κs = tt
-
-become-literal-requires : tie.Need-become-literal-requires
-become-literal-requires c κs = tt
+settle-gate-requires : tie.Need-settle-gate-requires
+settle-gate-requires c κs =
+    let p = c .before .before .before .before .before .pre in
+    (inputs (p .0), p .1, p .0 .counts)
 
 returns : tie.Need-returns
-returns c = λ g n e f. same-value g n (c .before .before .before .before .before .before .args .class) _ (gate-settled g _ _ (c .before .before .before .before .evaluate .result) (c .before .before .before .before .evaluate .ensures g e) _ (c .before .before .enum-told .given .1) (c .before .annihilate .ensures g f)) (c .become-literal .ensures g n)
+returns c =
+    same-value _ _ (c .before .before .before .before .before .before .args .class) _ (gate-settled _ _ _ (c .before .before .before .evaluate .result) (c .before .before .before .evaluate .ensures) _ (c .before .enum-told .given .1) refl) (c .settle-gate .ensures)
 
 returns-2 : tie.Need-returns-2
-returns-2 c = λ g n e f. becomes-literal g n (sym (gate-evaluated g _ _ (c .before .before .before .evaluate .result) (c .before .before .before .evaluate .ensures g e) (c .before .v .given .1)))
+returns-2 c =
+    becomes-literal _ _ (sym (gate-evaluated _ _ _ (c .before .before .before .evaluate .result) (c .before .before .before .evaluate .ensures) (c .before .v .given .1)))
 
 pub try-resolve-gate-spec : {M : Type 1} → statement M
 try-resolve-gate-spec =
     tie.close
-    (tie.spec
-    evaluate-requires
-    enum-known-v
-    enum-told
-    annihilate-requires
-    become-literal-requires
-    returns
-    returns-2)
+    (tie.spec evaluate-requires enum-known-v enum-told settle-gate-requires returns returns-2)
