@@ -1,3 +1,4 @@
 pub mod Chains
 pub mod Ports
 pub mod Conditions
+pub mod Locations

@@ -1,7 +1,7 @@
 -- What a lookup of an input reads, and what the types of the code say in the model's terms.
-use Prim.Native.Nat.{ℕ, _-_}
+use Prim.Native.Nat.{ℕ, _-_, _≤_, _<_}
 use mathlib.Core.Path.{_≡_}
-use mathlib.Core.Bool.{Bool, cond, _&&_}
+use mathlib.Core.Bool.{Bool, true, false, cond, _&&_}
 use mathlib.Core.Option.{Option, none, some}
 use mathlib.Core.List.{List}
 use lib.Dec.{eqb, leb}
@@ -13,10 +13,12 @@ use Rattle.graph.specs.Decode.{graphOf}
 use Rattle.graph.specs.Index.{Indexed}
 use Rattle.records.specs.Access.{wiresOf, Bounded}
 use Rattle.model.specs.Maps.{keep}
-use Rattle.model.specs.Inputs.{size, isPort, resolveInput, resolveDataInput}
+use Rattle.ir.specs.Limits.{maxNodes}
+use Rattle.model.specs.Inputs.{size, isPort, property, carried, operandOf, resolveInput, resolveDataInput}
 use Rattle.model.specs.declared.Resolved.{Resolved}
 use Rattle.wire_index.specs.Chains.{Feeds as Chains}
 use Rattle.state.specs.Held.{knownOf}
+use Rattle.inputs.specs.declared.Located.{Located}
 use Rattle.inputs.specs.declared.Feeds.{Feeds}
 use Rattle.inputs.specs.declared.Feeds.the-variants.{None, One, Many}
 use Rattle.inputs.specs.declared.OptionBool.{OptionBool}
@@ -74,3 +76,17 @@ abbrev pub variantIn : Resolved → ℕ
 variantIn Resolved.Unwired = 0
 variantIn (Resolved.Known v) = variantOf v
 variantIn Resolved.Unresolved = 8
+
+-- ---- where an input is found
+
+-- one wire, from node n
+pub record AtSource (kinds : List ℕ) (n : ℕ) (l : Located) : Type 0 where
+  pub wired : l .wired ≡ true
+  pub source : l .source ≡ n
+  pub variant : (words : List ℕ) → l .variant ≡ variantIn (carried (knownOf kinds words n))
+
+-- the input at port p of node n, where there is one
+pub record Locates (has : Bool) (input kinds : List ℕ) (n p : ℕ) (l : Located) : Type 0 where
+  pub variant : (words : List ℕ) → l .variant ≡ variantIn (inputIf has (portOf input kinds words n p))
+  pub by-wire : l .wired ≡ true → (l .source < maxNodes) × ((words : List ℕ) → operandOf (inputIf has (portOf input kinds words n p)) ≡ operandOf (carried (knownOf kinds words (l .source))))
+  pub by-property : l .wired ≡ false → l .variant ≤ 7 → has ≡ true → (words : List ℕ) → operandOf (inputIf has (portOf input kinds words n p)) ≡ operandOf (carried (property (graphOf input) n p))

@@ -11,7 +11,7 @@ use table::CELLS;
 use value::Operand;
 use value::OptionValue;
 ghost use mathlib.Core.Path.{_≡_};
-ghost use mathlib.Core.List.{List};
+ghost use mathlib.Core.Bool.{false};
 ghost use Prim.Native.Nat.{ℕ, _<_, _≤_};
 ghost use lib.ListN.{length, getD};
 ghost use Rattle.ir.specs.Limits.{maxNodes, maxWires};
@@ -24,7 +24,7 @@ ghost use Rattle.table.specs.Table.{Cells};
 ghost use Rattle.model.specs.Inputs.{size, optional, carried as carriedOf, orProperty, resolveWires, operandOf};
 ghost use Rattle.model.specs.Offer.{resolveCondition};
 ghost use Rattle.state.specs.Held.{knownOf};
-ghost use Rattle.inputs.specs.Inputs.{feedsIn, feedsOf, Wired, Inputs, portOf, inputIf, truth, kindVariant, variantIn};
+ghost use Rattle.inputs.specs.Inputs.{feedsIn, feedsOf, Wired, Inputs, portOf, inputIf, truth, kindVariant, variantIn, AtSource, Locates};
 
 // The wires into a port: none, one with its number, or more.
 pub enum Feeds {
@@ -169,22 +169,50 @@ fn property_variant(input: &[u8], table: &[u16; SLOTS], node: usize, port: u8) -
     variant_of(input[at])
 }
 
-// The variant of what is known of a wire's source.
-fn source_variant(wires: &[u8], kinds: &[u8; limit::NODES], wire: u16) -> u8
+// Where what a port has is found: its variant, and of one with a single wire the node that the wire starts at.
+pub struct Located {
+    pub variant: u8,
+    pub wired: bool,
+    pub source: usize,
+}
+
+// A port with no wire.
+fn locate_property(input: &[u8], table: &[u16; SLOTS], node: usize, port: u8) -> Located
+    requires { ⌜ (node < maxNodes) × (port ≤ valuePort) × Indexed (graphOf (now input) .properties) (now input) (now table) ⌝ }
+    ensures { λ r. ⌜ r ≡ record { variant = variantIn (orProperty Resolved.Unwired (optional (lookup node port (graphOf (now (input .entry)) .properties)))); wired = false; source = 0 } ⌝ }
+{
+    Located {
+        variant: property_variant(input, table, node, port),
+        wired: false,
+        source: 0,
+    }
+}
+
+// A port with one wire.
+fn locate_source(wires: &[u8], kinds: &[u8; limit::NODES], wire: u16) -> Located
     requires { ⌜ (wire < length (wiresOf (now wires))) × (getD (wiresOf (now wires)) wire noWire .source .«node_id» < maxNodes) ⌝ }
-    ensures { λ r. ⌜ ((words : List ℕ) → r ≡ variantIn (carriedOf (knownOf (now (kinds .entry)) words (getD (wiresOf (now (wires .entry))) wire noWire .source .«node_id»)))) ⌝ }
+    ensures { λ r. ⌜ AtSource (now (kinds .entry)) (getD (wiresOf (now (wires .entry))) wire noWire .source .«node_id») r ⌝ }
 {
     let read = access::wire(wires, wide_number(wire));
     let source = read.source.node_id;
     let kind = kinds[source];
     if kind == state::UNKNOWN {
-        return UNRESOLVED;
+        return Located {
+            variant: UNRESOLVED,
+            wired: true,
+            source,
+        };
     }
-    variant_of(kind)
+    Located {
+        variant: variant_of(kind),
+        wired: true,
+        source,
+    }
 }
 
-// The variant of what `resolve_data_input` gives of a port.
-pub fn variant_at(
+// What `resolve_data_input` gives of a port, located; Unwired where a gate has no such input.
+pub fn locate(
+    has: bool,
     input: &[u8],
     table: &[u16; SLOTS],
     wires: &[u8],
@@ -193,14 +221,26 @@ pub fn variant_at(
     kinds: &[u8; limit::NODES],
     node: usize,
     port: u8,
-) -> u8
+) -> Located
     requires { ⌜ Inputs (graphOf (now input)) (now input) (now table) (now wires) (now first) (now next) × (node < size (graphOf (now input))) × (port ≤ valuePort) ⌝ }
-    ensures { λ r. ⌜ ((words : List ℕ) → r ≡ variantIn (portOf (now (input .entry)) (now (kinds .entry)) words node port)) ⌝ }
+    ensures { λ r. ⌜ Locates has (now (input .entry)) (now (kinds .entry)) node port r ⌝ }
 {
-    match feeds_of(first, next, node, port) {
-        Feeds::None => property_variant(input, table, node, port),
-        Feeds::One(wire) => source_variant(wires, kinds, wire),
-        Feeds::Many => UNRESOLVED,
+    if has {
+        match feeds_of(first, next, node, port) {
+            Feeds::None => locate_property(input, table, node, port),
+            Feeds::One(wire) => locate_source(wires, kinds, wire),
+            Feeds::Many => Located {
+                variant: UNRESOLVED,
+                wired: false,
+                source: 0,
+            },
+        }
+    } else {
+        Located {
+            variant: variant::UNWIRED,
+            wired: false,
+            source: 0,
+        }
     }
 }
 
@@ -214,49 +254,27 @@ fn operand_of(known: OptionValue) -> Operand
     Operand::Known(v)
 }
 
-// What `resolve_data_input` gives of a port, as operand; no gate is asked about an Unresolved one.
-fn operand_at(
-    input: &[u8],
-    table: &[u16; SLOTS],
-    wires: &[u8],
-    first: &[u16; SLOTS],
-    next: &[u16; limit::WIRES],
-    kinds: &[u8; limit::NODES],
-    words: &[u64; WORDS],
-    node: usize,
-    port: u8,
-) -> Operand
-    requires { ⌜ Inputs (graphOf (now input)) (now input) (now table) (now wires) (now first) (now next) × (node < size (graphOf (now input))) × (port ≤ valuePort) ⌝ }
-    ensures { λ r. ⌜ r ≡ operandOf (portOf (now (input .entry)) (now (kinds .entry)) (now (words .entry)) node port) ⌝ }
-{
-    match feeds_of(first, next, node, port) {
-        Feeds::None => operand_of(access::property(input, table, node, port)),
-        Feeds::One(wire) => operand_of(source_value(wires, kinds, words, wire)),
-        Feeds::Many => Operand::Unwired,
-    }
-}
-
-// The operand that a gate has at a port; Unwired where it has no such input. One function for all ports, so that its result is not copied.
-pub fn operand_if(
+// The operand at a port that is located and not Unresolved.
+pub fn operand_at(
     has: bool,
+    located: Located,
     input: &[u8],
     table: &[u16; SLOTS],
-    wires: &[u8],
-    first: &[u16; SLOTS],
-    next: &[u16; limit::WIRES],
     kinds: &[u8; limit::NODES],
     words: &[u64; WORDS],
     node: usize,
     port: u8,
 ) -> Operand
-    requires { ⌜ Inputs (graphOf (now input)) (now input) (now table) (now wires) (now first) (now next) × (node < size (graphOf (now input))) × (port ≤ valuePort) ⌝ }
+    requires { ⌜ (node < maxNodes) × (port ≤ valuePort) × Indexed (graphOf (now input) .properties) (now input) (now table) × Locates has (now input) (now kinds) node port located × (located .variant ≤ 7) ⌝ }
     ensures { λ r. ⌜ r ≡ operandOf (inputIf has (portOf (now (input .entry)) (now (kinds .entry)) (now (words .entry)) node port)) ⌝ }
 {
-    if has {
-        operand_at(input, table, wires, first, next, kinds, words, node, port)
-    } else {
-        Operand::Unwired
+    if located.wired {
+        return operand_of(state::load(kinds, words, located.source));
     }
+    if has {
+        return operand_of(access::property(input, table, node, port));
+    }
+    Operand::Unwired
 }
 
 // The truth of the condition at a port of a Select or a Branch: one that is resolved, and whose one-variant row is in the table.
@@ -276,20 +294,15 @@ pub fn resolve_condition(
     requires { ⌜ Inputs (graphOf (now input)) (now input) (now table) (now wires) (now first) (now next) × Cells (graphOf (now input) .rows) (now rows) × (class < 42) × (node < size (graphOf (now input))) × (port ≤ valuePort) ⌝ }
     ensures { λ r. ⌜ truth r ≡ resolveCondition (graphOf (now (input .entry))) class (portOf (now (input .entry)) (now (kinds .entry)) (now (words .entry)) node port) ⌝ }
 {
-    let variant = variant_at(input, table, wires, first, next, kinds, node, port);
-    if table::covers(rows, class, variant, variant::UNWIRED, variant::UNWIRED) {
-        let condition = operand_if(
-            true,
-            input,
-            table,
-            wires,
-            first,
-            next,
-            kinds,
-            words,
-            node,
-            port,
-        );
+    let located = locate(true, input, table, wires, first, next, kinds, node, port);
+    if table::covers(
+        rows,
+        class,
+        located.variant,
+        variant::UNWIRED,
+        variant::UNWIRED,
+    ) {
+        let condition = operand_at(true, located, input, table, kinds, words, node, port);
         return OptionBool::Some(conversions::truthy(condition));
     }
     OptionBool::None

@@ -3,7 +3,6 @@ use graph::Counts;
 use graph::SLOTS;
 use ir::limit;
 use ir::port;
-use ir::variant;
 use model::Resolved;
 use state::Trial;
 use state::WORDS;
@@ -15,7 +14,7 @@ use value::OptionValue;
 use value::Value;
 ghost use mathlib.Core.Path.{_≡_};
 ghost use mathlib.Core.Bool.{Bool};
-ghost use mathlib.Core.List.{List, [], _∷_};
+ghost use mathlib.Core.List.{[], _∷_};
 ghost use Prim.Native.Nat.{ℕ, _≤_, _<_};
 ghost use Rattle.ir.specs.Ports.{valuePort};
 ghost use mathlib.Core.Option.{some};
@@ -24,11 +23,11 @@ ghost use Rattle.graph.specs.Decode.{graphOf};
 ghost use Rattle.table.specs.Table.{Cells};
 ghost use Rattle.semantics.specs.Eval.{evalOf};
 ghost use Rattle.semantics.specs.Finite.{nonFiniteFloat};
-ghost use Rattle.model.specs.Inputs.{size, optional, operandOf};
+ghost use Rattle.model.specs.Inputs.{size, optional};
 ghost use Rattle.model.specs.Offer.{plannable, evaluated, annihilator, isBool, holdsBool, settled, gateValue, literalOffer};
 ghost use Rattle.resolve.specs.Reads.{Reads};
-ghost use Rattle.inputs.specs.Inputs.{Inputs, portOf, inputIf, variantIn};
-ghost use Rattle.resolve.specs.Gives.{gateInputs, covered, Gives};
+ghost use Rattle.inputs.specs.Inputs.{Inputs, portOf, inputIf};
+ghost use Rattle.resolve.specs.Gives.{gateInputs, Gives};
 
 fn is_non_finite(v: Value) -> bool
     ensures { λ r. ⌜ r ≡ nonFiniteFloat v ⌝ }
@@ -58,28 +57,6 @@ fn is_non_finite(v: Value) -> bool
     }
 }
 
-// The variant of what a gate has at a port; Unwired where it has no such input.
-fn variant_if(
-    has: bool,
-    input: &[u8],
-    table: &[u16; SLOTS],
-    wires: &[u8],
-    first: &[u16; SLOTS],
-    next: &[u16; limit::WIRES],
-    kinds: &[u8; limit::NODES],
-    n: usize,
-    port: u8,
-) -> u8
-    requires { ⌜ Inputs (graphOf (now input)) (now input) (now table) (now wires) (now first) (now next) × (n < size (graphOf (now input))) × (port ≤ valuePort) ⌝ }
-    ensures { λ r. ⌜ ((words : List ℕ) → r ≡ variantIn (inputIf has (portOf (now (input .entry)) (now (kinds .entry)) words n port))) ⌝ }
-{
-    if has {
-        inputs::variant_at(input, table, wires, first, next, kinds, n, port)
-    } else {
-        variant::UNWIRED
-    }
-}
-
 // What a gate has at a port.
 fn input_if(
     has: bool,
@@ -101,49 +78,6 @@ fn input_if(
     } else {
         Resolved::Unwired
     }
-}
-
-// Whether no input of a gate is Unresolved, and the table has their row.
-fn is_covered(
-    input: &[u8],
-    table: &[u16; SLOTS],
-    wires: &[u8],
-    first: &[u16; SLOTS],
-    next: &[u16; limit::WIRES],
-    kinds: &[u8; limit::NODES],
-    rows: &[bool; CELLS],
-    n: usize,
-    class: u8,
-    second: bool,
-    third: bool,
-) -> bool
-    requires { ⌜ Inputs (graphOf (now input)) (now input) (now table) (now wires) (now first) (now next) × (n < size (graphOf (now input))) × Cells (graphOf (now input) .rows) (now rows) × (class < 42) ⌝ }
-    ensures { λ r. ⌜ ((words : List ℕ) → r ≡ covered (graphOf (now (input .entry))) class (gateInputs (portOf (now (input .entry)) (now (kinds .entry)) words n) second third)) ⌝ }
-{
-    let a = inputs::variant_at(input, table, wires, first, next, kinds, n, port::INPUT_A);
-    let b = variant_if(
-        second,
-        input,
-        table,
-        wires,
-        first,
-        next,
-        kinds,
-        n,
-        port::INPUT_B,
-    );
-    let c = variant_if(
-        third,
-        input,
-        table,
-        wires,
-        first,
-        next,
-        kinds,
-        n,
-        port::THIRD_INPUT,
-    );
-    table::covers(rows, class, a, b, c)
 }
 
 // The value that a gate gives of operands, if it is not a non-finite Float.
@@ -177,56 +111,44 @@ fn evaluate(
     requires { ⌜ Inputs (graphOf (now input)) (now input) (now table) (now wires) (now first) (now next) × (n < size (graphOf (now input))) × Cells (graphOf (now input) .rows) (now rows) × (class < 42) ⌝ }
     ensures { λ r. ⌜ optional r ≡ evaluated (graphOf (now (input .entry))) class (gateInputs (portOf (now (input .entry)) (now (kinds .entry)) (now (words .entry)) n) second third) ⌝ }
 {
-    if is_covered(
+    let a = inputs::locate(
+        true,
         input,
         table,
         wires,
         first,
         next,
         kinds,
-        rows,
         n,
-        class,
+        port::INPUT_A,
+    );
+    let b = inputs::locate(
         second,
+        input,
+        table,
+        wires,
+        first,
+        next,
+        kinds,
+        n,
+        port::INPUT_B,
+    );
+    let c = inputs::locate(
         third,
-    ) {
-        let a = inputs::operand_if(
-            true,
-            input,
-            table,
-            wires,
-            first,
-            next,
-            kinds,
-            words,
-            n,
-            port::INPUT_A,
-        );
-        let b = inputs::operand_if(
-            second,
-            input,
-            table,
-            wires,
-            first,
-            next,
-            kinds,
-            words,
-            n,
-            port::INPUT_B,
-        );
-        let c = inputs::operand_if(
-            third,
-            input,
-            table,
-            wires,
-            first,
-            next,
-            kinds,
-            words,
-            n,
-            port::THIRD_INPUT,
-        );
-        return evaluate_operands(class, a, b, c);
+        input,
+        table,
+        wires,
+        first,
+        next,
+        kinds,
+        n,
+        port::THIRD_INPUT,
+    );
+    if table::covers(rows, class, a.variant, b.variant, c.variant) {
+        let x = inputs::operand_at(true, a, input, table, kinds, words, n, port::INPUT_A);
+        let y = inputs::operand_at(second, b, input, table, kinds, words, n, port::INPUT_B);
+        let z = inputs::operand_at(third, c, input, table, kinds, words, n, port::THIRD_INPUT);
+        return evaluate_operands(class, x, y, z);
     }
     OptionValue::None
 }

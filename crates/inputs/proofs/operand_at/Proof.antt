@@ -1,76 +1,46 @@
 -- `inputs::operand_at` meets its contract.
-use mathlib.Core.Path.{refl, ap, _∙_}
-use Rattle.model.specs.Inputs.{optional, operandOf}
-use Rattle.model.specs.declared.Resolved.{Resolved}
-use Rattle.inputs.proofs.Conditions.{same-operand}
-use Rattle.inputs.proofs.Ports.{wired, few, data-port, carried-port}
-use Rattle.inputs.proofs.Chains.{port-code, port-says, source-node, resolve-none, resolve-one, resolve-many}
+use mathlib.Core.Path.{sym, ap, _∙_}
+use mathlib.Core.Option.{Option}
+use Rattle.value.specs.declared.Value.{Value}
+use Rattle.value.specs.declared.OptionValue.{OptionValue}
+use Rattle.model.specs.Inputs.{optional, property, carried, operandOf}
+use Rattle.inputs.proofs.Conditions.{no-input}
 use borrow.Author.Needs.{needs}
 use Rattle.inputs.proofs.operand_at.Statement.{statement}
 use Rattle.inputs.proofs.operand_at.Tie as tie
 
-feeds-of-requires : tie.Need-feeds-of-requires
-feeds-of-requires c κs =
-    let p = c .before .before .pre in
-    let n = few (p .0) (p .1) in
-    (n, p .2, port-code (wired (p .0)) _ _ n (p .2))
-
-enum-told : tie.Need-enum-told
-enum-told c = search needs
-
-property-requires : tie.Need-property-requires
-property-requires c κs =
-    let p = c .before .before .before .before .before .pre in
-    (few (p .0) (p .1), p .2, p .0 .properties)
+load-requires : tie.Need-load-requires
+load-requires c κs = c .before .before .pre .3 .by-wire (c .if1 .taken) .0
 
 operand-of-requires : tie.Need-operand-of-requires
 operand-of-requires c κs = search needs
 
-enum-known-wire : tie.Need-enum-known-wire
-enum-known-wire c = search needs
+returns : tie.Need-returns
+returns c =
+    c .operand-of .ensures ∙ ap (λ (o : Option Value). operandOf (carried o)) (c .before .load .ensures) ∙ sym (c .before .before .before .before .pre .3 .by-wire (c .before .before .if1 .taken) .1 _)
 
-source-value-requires : tie.Need-source-value-requires
-source-value-requires c κs =
-    let p = c .before .before .before .before .before .before .pre in
-    let s = rw (c .before .wire .given .1) at (port-says (wired (p .0)) _ _ (few (p .0) (p .1)) (p .2) _ (c .before .before .before .feeds-of .ensures)) in
-    (s .0, source-node (wired (p .0)) _ (s .0))
+property-requires : tie.Need-property-requires
+property-requires c κs = search needs
 
 operand-of-requires-2 : tie.Need-operand-of-requires-2
 operand-of-requires-2 c κs = search needs
 
-enum-told-2 : tie.Need-enum-told-2
-enum-told-2 c = search needs
-
-returns : tie.Need-returns
-returns c =
-    let p = c .before .before .before .before .before .before .before .pre in
-    let s = rw (c .before .before .enum-told .given .1) at (port-says (wired (p .0)) _ _ (few (p .0) (p .1)) (p .2) _ (c .before .before .before .before .feeds-of .ensures)) in
-    c .operand-of .ensures ∙ same-operand (optional (c .before .property .result)) ∙ ap operandOf (data-port (p .0) _ _ _ Resolved.Unwired (c .before .property .result) (resolve-none _ s) (c .before .property .ensures))
-
 returns-2 : tie.Need-returns-2
+unfolding property
 returns-2 c =
-    let p = c .before .before .before .before .before .before .before .before .pre in
-    let s = rw (c .before .before .before .wire .given .1) at (port-says (wired (p .0)) _ _ (few (p .0) (p .1)) (p .2) _ (c .before .before .before .before .before .feeds-of .ensures)) in
-    c .operand-of2 .ensures ∙ ap operandOf (carried-port (p .0) _ _ _ (optional (c .before .source-value .result)) refl (resolve-one _ (c .before .source-value .result) (s .1) (c .before .source-value .ensures) refl))
+    c .operand-of2 .ensures ∙ ap (λ (o : OptionValue). operandOf (carried (optional o))) (c .before .property .ensures) ∙ sym (c .before .before .before .before .before .pre .3 .by-property (c .before .before .before .if1 .left) (c .before .before .before .before .before .pre .4) (c .before .before .if2 .taken) _)
 
 returns-3 : tie.Need-returns-3
-returns-3 c =
-    let p = c .before .before .before .before .before .pre in
-    let s = rw (c .enum-told2 .given .1) at (port-says (wired (p .0)) _ _ (few (p .0) (p .1)) (p .2) _ (c .before .before .feeds-of .ensures)) in
-    ap operandOf (data-port (p .0) _ _ _ Resolved.Unresolved _ (resolve-many _ s) refl)
+returns-3 c = ap operandOf (no-input _ (c .if2 .left))
 
 pub operand-at-spec : {M : Type 1} → statement M
 operand-at-spec =
     tie.close
     (tie.spec
-    feeds-of-requires
-    enum-told
-    property-requires
+    load-requires
     operand-of-requires
-    enum-known-wire
-    source-value-requires
-    operand-of-requires-2
-    enum-told-2
     returns
+    property-requires
+    operand-of-requires-2
     returns-2
     returns-3)

@@ -1,47 +1,90 @@
 -- `resolve::gates::evaluate` meets its contract.
 use native.Mathlib.Omega.{arith}
 use mathlib.Core.Path.{_∙_}
-use Rattle.resolve.proofs.GateValues.{is-covered, not-covered}
+use denote.Ref.{now}
+use Rattle.graph.specs.Decode.{graphOf}
+use Rattle.graph.specs.declared.Row.{Row}
+use Rattle.table.proofs.Search.{Listed}
+use Rattle.inputs.proofs.Ports.{few}
+use Rattle.inputs.proofs.Locations.{row-listed}
+use Rattle.resolve.proofs.GateValues.{covers-inputs, is-covered, not-covered}
 use borrow.Author.Needs.{needs}
 use Rattle.resolve.proofs.gates.evaluate.Statement.{statement}
 use Rattle.resolve.proofs.gates.evaluate.Tie as tie
 
-is-covered-requires : tie.Need-is-covered-requires
-is-covered-requires c κs = c .before .before .pre
+locate-requires : tie.Need-locate-requires
+locate-requires c κs =
+    let p = c .before .before .pre in
+    (p .0, p .1, omega arith)
 
-operand-if-requires : tie.Need-operand-if-requires
-operand-if-requires c κs =
+locate-requires-2 : tie.Need-locate-requires-2
+locate-requires-2 c κs =
+    let p = c .before .before .before .pre in
+    (p .0, p .1, omega arith)
+
+locate-requires-3 : tie.Need-locate-requires-3
+locate-requires-3 c κs =
     let p = c .before .before .before .before .pre in
     (p .0, p .1, omega arith)
 
-operand-if-requires-2 : tie.Need-operand-if-requires-2
-operand-if-requires-2 c κs =
-    let p = c .before .before .before .before .before .pre in
-    (p .0, p .1, omega arith)
+covers-requires : tie.Need-covers-requires
+covers-requires c κs = search needs
 
-operand-if-requires-3 : tie.Need-operand-if-requires-3
-operand-if-requires-3 c κs =
-    let p = c .before .before .before .before .before .before .pre in
-    (p .0, p .1, omega arith)
+-- the row that was found
+abbrev row : tie.Then1 → Row
+row c =
+    record {
+      class = c .before .before .before .before .before .before .before .args .class;
+      first = c .before .before .before .before .locate .result .variant;
+      second = c .before .before .before .locate2 .result .variant;
+      third = c .before .before .locate3 .result .variant;
+    }
+
+listed : (c : tie.Then1) → Listed (row c)
+listed c =
+    let g = graphOf (now (c .before .before .before .before .before .before .before .args .input)) in
+    row-listed (g .rows) (row c) (c .before .covers .ensures _ (c .before .before .before .before .before .before .before .pre .2)) (c .if1 .taken)
+
+operand-at-requires : tie.Need-operand-at-requires
+operand-at-requires c κs =
+    let p = c .before .before .before .before .before .before .before .pre in
+    (few (p .0) (p .1), omega arith, p .0 .properties, c .before .before .before .before .locate .ensures, listed c .first)
+
+operand-at-requires-2 : tie.Need-operand-at-requires-2
+operand-at-requires-2 c κs =
+    let p = c .before .before .before .before .before .before .before .before .pre in
+    (few (p .0) (p .1), omega arith, p .0 .properties, c .before .before .before .before .locate2 .ensures, listed (c .before) .second)
+
+operand-at-requires-3 : tie.Need-operand-at-requires-3
+operand-at-requires-3 c κs =
+    let p = c .before .before .before .before .before .before .before .before .before .pre in
+    (few (p .0) (p .1), omega arith, p .0 .properties, c .before .before .before .before .locate3 .ensures, listed (c .before .before) .third)
 
 evaluate-operands-requires : tie.Need-evaluate-operands-requires
 evaluate-operands-requires c κs = search needs
 
 returns : tie.Need-returns
 returns c =
-    c .evaluate-operands .ensures ∙ is-covered _ _ _ _ _ (c .before .before .before .before .before .is-covered .ensures _) (c .before .before .before .before .if1 .taken) (c .before .before .before .operand-if .ensures) (c .before .before .operand-if2 .ensures) (c .before .operand-if3 .ensures)
+    let p = c .before .before .before .before .before .before .before .before .before .before .before .pre in
+    c .evaluate-operands .ensures
+    ∙ is-covered _ _ _ _ _ (covers-inputs _ _ (p .3) _ _ _ (c .before .before .before .before .before .before .before .before .locate .ensures .variant _) (c .before .before .before .before .before .before .before .locate2 .ensures .variant _) (c .before .before .before .before .before .before .locate3 .ensures .variant _) (c .before .before .before .before .before .covers .ensures _ (p .2))) (c .before .before .before .before .if1 .taken) (c .before .before .before .operand-at .ensures) (c .before .before .operand-at2 .ensures) (c .before .operand-at3 .ensures)
 
 returns-2 : tie.Need-returns-2
-returns-2 c = not-covered _ _ _ _ _ (c .before .is-covered .ensures _) (c .if1 .left)
+returns-2 c =
+    let p = c .before .before .before .before .before .before .before .pre in
+    not-covered _ _ _ _ _ (covers-inputs _ _ (p .3) _ _ _ (c .before .before .before .before .locate .ensures .variant _) (c .before .before .before .locate2 .ensures .variant _) (c .before .before .locate3 .ensures .variant _) (c .before .covers .ensures _ (p .2))) (c .if1 .left)
 
 pub evaluate-spec : {M : Type 1} → statement M
 evaluate-spec =
     tie.close
     (tie.spec
-    is-covered-requires
-    operand-if-requires
-    operand-if-requires-2
-    operand-if-requires-3
+    locate-requires
+    locate-requires-2
+    locate-requires-3
+    covers-requires
+    operand-at-requires
+    operand-at-requires-2
+    operand-at-requires-3
     evaluate-operands-requires
     returns
     returns-2)
