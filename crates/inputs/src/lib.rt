@@ -39,7 +39,7 @@ pub enum OptionBool {
 }
 
 // The variant of an Unresolved input, which no row has.
-pub const UNRESOLVED: u8 = 8;
+const UNRESOLVED: u8 = 8;
 
 fn wide(x: u8) -> usize
     ensures { λ r. ⌜ (r ≡ x) × (r < 256) ⌝ }

@@ -27,7 +27,7 @@ use Rattle.model.proofs.Resolved.{the-type as resolved-type}
 use Rattle.state.specs.declared.Trial.{Trial}
 use Rattle.inputs.specs.Inputs.{variantIn}
 use Rattle.inputs.proofs.Conditions.{covers-same}
-use Rattle.resolve.specs.Gives.{gateInputs, covered, Gives}
+use Rattle.resolve.specs.Gives.{gateInputs, Gives}
 use Rattle.resolve.proofs.Trials.{IsGate}
 
 -- ---- what a gate gives
@@ -42,6 +42,10 @@ module _ {o p : OptionValue} (value : o ≡ p) where
 
     pub gives-value : f ≡ false → some v ≡ plannable p
     gives-value k = rw (← value, h, ← finite, k)
+
+-- "no input Unresolved and the row in the table"
+abbrev covered : Graph → ℕ → List Resolved → Bool
+covered g class is = allResolved is && covers g class (map operandOf is)
 
 module _ (g : Graph) (class : ℕ) (a b c : Resolved) {t : Bool} (e : t ≡ covered g class (a ∷ b ∷ c ∷ [])) where
   pub not-covered : t ≡ false → none ≡ evaluated g class (a ∷ b ∷ c ∷ [])

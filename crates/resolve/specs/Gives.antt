@@ -1,12 +1,11 @@
 -- What the functions behind a trial give, in the model's terms.
 use Prim.Native.Nat.{ℕ}
 use mathlib.Core.Path.{_≡_}
-use mathlib.Core.Bool.{Bool, _&&_}
-use mathlib.Core.List.{List, [], _∷_, map}
+use mathlib.Core.Bool.{Bool}
+use mathlib.Core.List.{List, [], _∷_}
 use Rattle.ir.specs.Ports.{inputA, inputB, thirdInput}
 use Rattle.graph.specs.Graph.{Graph}
-use Rattle.model.specs.Inputs.{allResolved, operandOf}
-use Rattle.model.specs.Offer.{Offer, covers}
+use Rattle.model.specs.Offer.{Offer}
 use Rattle.model.specs.declared.Resolved.{Resolved}
 use Rattle.inputs.specs.Inputs.{inputIf}
 use Rattle.state.specs.Trials.{offerOf, Within}
@@ -15,10 +14,6 @@ use Rattle.state.specs.declared.Trial.{Trial}
 -- the inputs of a gate of one to three, by what its ports have; Unwired stands for those that it does not have
 abbrev pub gateInputs : (ℕ → Resolved) → Bool → Bool → List Resolved
 gateInputs port second third = port inputA ∷ inputIf second (port inputB) ∷ inputIf third (port thirdInput) ∷ []
-
--- "no input Unresolved and the row in the table"
-abbrev pub covered : Graph → ℕ → List Resolved → Bool
-covered g class is = allResolved is && covers g class (map operandOf is)
 
 -- the trial gives node n this offer
 pub record Gives (g : Graph) (n : ℕ) (o : Offer) (t : Trial) : Type 0 where
