@@ -96,6 +96,12 @@ zeroLike (Value.Rotator p y r) = Value.Rotator zero zero zero
 zeroLike (Value.Quat x y z w) = Value.Quat zero zero zero zero
 zeroLike (Value.Color r g b a) = Value.Color zero zero zero zero
 
+-- an operand as it counts beside another; of two Unwired neither gets a zero
+abbrev pub orZeroLike : Operand → Operand → Operand
+orZeroLike (Operand.Known a) b = Operand.Known a
+orZeroLike Operand.Unwired (Operand.Known b) = Operand.Known (zeroLike b)
+orZeroLike Operand.Unwired Operand.Unwired = Operand.Unwired
+
 -- "Two Unwired ..: None."
 abbrev pub eqOf : Operand → Operand → OptionBool
 eqOf Operand.Unwired Operand.Unwired = OptionBool.None
@@ -132,6 +138,11 @@ intsBy z OptionInt.None n other = other
 
 abbrev pub orderBy : (ℤ → ℤ → Bool) → (Float → Float → Bool) → Operand → Operand → OptionBool
 orderBy z f a b = intsBy z (onlyIntOf a) (onlyIntOf b) (floatsBy f (scalarOf a) (scalarOf b))
+
+-- a test of two numbers, or of the two swapped
+abbrev pub swappedIf : {N : Type 0} → Bool → (N → N → Bool) → N → N → Bool
+swappedIf true f x y = f y x
+swappedIf false f x y = f x y
 
 unfoldable pub lessOf : Operand → Operand → OptionValue
 lessOf a b = given (orderBy ltZ lt a b)

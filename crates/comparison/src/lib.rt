@@ -1,10 +1,12 @@
 // Equality and order of two operands, and the logical gates.
 ghost use mathlib.Core.Path.{_≡_};
+ghost use mathlib.Core.Bool.{cond};
 ghost use lib.Ieee as Ieee;
+ghost use lib.Signed.{ltZ, leZ};
 ghost use Rattle.whole.specs.Compare.{eqZ};
 ghost use Rattle.whole.specs.Convert.{intOfBool};
 ghost use Rattle.conversions.specs.Conversions.{scalarOf};
-ghost use Rattle.comparison.specs.Comparison.{eqS, eqIntFloat, eqInt, eqFloat, eqBool, eqComposite, eqValue, zeroLike, eqOf, given, equalOf, notEqualOf, floatsBy, lessOf, lessOrEqualOf, greaterOf, greaterOrEqualOf, logicalAndOf, logicalOrOf, logicalXorOf, logicalNotOf, logicalNandOf, logicalNorOf};
+ghost use Rattle.comparison.specs.Comparison.{eqS, eqIntFloat, eqInt, eqFloat, eqBool, eqComposite, eqValue, zeroLike, orZeroLike, given, equalOf, notEqualOf, floatsBy, swappedIf, lessOf, lessOrEqualOf, greaterOf, greaterOrEqualOf, logicalAndOf, logicalOrOf, logicalXorOf, logicalNotOf, logicalNandOf, logicalNorOf};
 use conversions::only_int;
 use conversions::scalar;
 use conversions::truthy;
@@ -199,67 +201,69 @@ fn default_for(other: Value) -> Value
     }
 }
 
-fn eq(a: Operand, b: Operand) -> OptionBool
-    ensures { λ r. ⌜ r ≡ eqOf a b ⌝ }
+// An operand as it counts beside another: where it is unwired, as the other's zero.
+fn or_default(a: Operand, b: Operand) -> Operand
+    ensures { λ r. ⌜ r ≡ orZeroLike a b ⌝ }
 {
-    match a {
-        Operand::Unwired => match b {
-            Operand::Unwired => OptionBool::None,
-            Operand::Known(b) => eq_value(default_for(b), b),
-        },
-        Operand::Known(a) => match b {
-            Operand::Unwired => eq_value(a, default_for(a)),
-            Operand::Known(b) => eq_value(a, b),
-        },
+    let Operand::Unwired = a else {
+        return a;
+    };
+    let Operand::Known(other) = b else {
+        return Operand::Unwired;
+    };
+    Operand::Known(default_for(other))
+}
+
+// Equal, or NotEqual where `equal` is false.
+pub fn equality(equal: bool, a: Operand, b: Operand) -> OptionValue
+    ensures { λ r. ⌜ r ≡ cond equal (equalOf a b) (notEqualOf a b) ⌝ }
+{
+    let Operand::Known(x) = or_default(a, b) else {
+        return OptionValue::None;
+    };
+    let Operand::Known(y) = or_default(b, a) else {
+        return OptionValue::None;
+    };
+    let OptionBool::Some(same) = eq_value(x, y) else {
+        return OptionValue::None;
+    };
+    OptionValue::Some(Value::Bool(same == equal))
+}
+
+// ---- Order: two Ints exactly, else by float. Greater is Less of the two swapped: the numbers, once they are read
+
+fn order_int(or_equal: bool, swapped: bool, x: i64, y: i64) -> bool
+    ensures { λ r. ⌜ r ≡ swappedIf swapped (cond «or_equal» leZ ltZ) x y ⌝ }
+{
+    if swapped {
+        if or_equal {
+            return whole::less_or_equal(y, x);
+        }
+        return whole::less(y, x);
     }
+    if or_equal {
+        return whole::less_or_equal(x, y);
+    }
+    whole::less(x, y)
 }
 
-pub fn equal(a: Operand, b: Operand) -> OptionValue
-    ensures { λ r. ⌜ r ≡ equalOf a b ⌝ }
+fn order_float(or_equal: bool, swapped: bool, x: f64, y: f64) -> bool
+    ensures { λ r. ⌜ r ≡ swappedIf swapped (cond «or_equal» Ieee.le Ieee.lt) x y ⌝ }
 {
-    let OptionBool::Some(same) = eq(a, b) else {
-        return OptionValue::None;
-    };
-    OptionValue::Some(Value::Bool(same))
+    if swapped {
+        if or_equal {
+            return y <= x;
+        }
+        return y < x;
+    }
+    if or_equal {
+        return x <= y;
+    }
+    x < y
 }
 
-pub fn not_equal(a: Operand, b: Operand) -> OptionValue
-    ensures { λ r. ⌜ r ≡ notEqualOf a b ⌝ }
-{
-    let OptionBool::Some(same) = eq(a, b) else {
-        return OptionValue::None;
-    };
-    OptionValue::Some(Value::Bool(!same))
-}
-
-// ---- Order: two Ints exactly, else by float
-
-fn less_float(a: Operand, b: Operand) -> OptionValue
-    ensures { λ r. ⌜ r ≡ given (floatsBy Ieee.lt (scalarOf a) (scalarOf b)) ⌝ }
-{
-    let OptionFloat::Some(x) = scalar(a) else {
-        return OptionValue::None;
-    };
-    let OptionFloat::Some(y) = scalar(b) else {
-        return OptionValue::None;
-    };
-    OptionValue::Some(Value::Bool(x < y))
-}
-
-pub fn less(a: Operand, b: Operand) -> OptionValue
-    ensures { λ r. ⌜ r ≡ lessOf a b ⌝ }
-{
-    let OptionInt::Some(x) = only_int(a) else {
-        return less_float(a, b);
-    };
-    let OptionInt::Some(y) = only_int(b) else {
-        return less_float(a, b);
-    };
-    OptionValue::Some(Value::Bool(whole::less(x, y)))
-}
-
-fn less_or_equal_float(a: Operand, b: Operand) -> OptionValue
-    ensures { λ r. ⌜ r ≡ given (floatsBy Ieee.le (scalarOf a) (scalarOf b)) ⌝ }
+fn order_floats(or_equal: bool, swapped: bool, a: Operand, b: Operand) -> OptionValue
+    ensures { λ r. ⌜ r ≡ given (floatsBy (swappedIf swapped (cond «or_equal» Ieee.le Ieee.lt)) (scalarOf a) (scalarOf b)) ⌝ }
 {
     let OptionFloat::Some(x) = scalar(a) else {
         return OptionValue::None;
@@ -267,31 +271,19 @@ fn less_or_equal_float(a: Operand, b: Operand) -> OptionValue
     let OptionFloat::Some(y) = scalar(b) else {
         return OptionValue::None;
     };
-    OptionValue::Some(Value::Bool(x <= y))
+    OptionValue::Some(Value::Bool(order_float(or_equal, swapped, x, y)))
 }
 
-pub fn less_or_equal(a: Operand, b: Operand) -> OptionValue
-    ensures { λ r. ⌜ r ≡ lessOrEqualOf a b ⌝ }
+// Less, or LessOrEqual where `or_equal` holds; where `swapped` does, Greater or GreaterOrEqual.
+pub fn order(or_equal: bool, swapped: bool, a: Operand, b: Operand) -> OptionValue
+    ensures { λ r. ⌜ r ≡ cond swapped (cond «or_equal» (greaterOrEqualOf a b) (greaterOf a b)) (cond «or_equal» (lessOrEqualOf a b) (lessOf a b)) ⌝ }
 {
-    let OptionInt::Some(x) = only_int(a) else {
-        return less_or_equal_float(a, b);
-    };
-    let OptionInt::Some(y) = only_int(b) else {
-        return less_or_equal_float(a, b);
-    };
-    OptionValue::Some(Value::Bool(whole::less_or_equal(x, y)))
-}
-
-pub fn greater(a: Operand, b: Operand) -> OptionValue
-    ensures { λ r. ⌜ r ≡ greaterOf a b ⌝ }
-{
-    less(b, a)
-}
-
-pub fn greater_or_equal(a: Operand, b: Operand) -> OptionValue
-    ensures { λ r. ⌜ r ≡ greaterOrEqualOf a b ⌝ }
-{
-    less_or_equal(b, a)
+    if let OptionInt::Some(x) = only_int(a) {
+        if let OptionInt::Some(y) = only_int(b) {
+            return OptionValue::Some(Value::Bool(order_int(or_equal, swapped, x, y)));
+        }
+    }
+    order_floats(or_equal, swapped, a, b)
 }
 
 // ---- Logic

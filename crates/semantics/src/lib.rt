@@ -12,14 +12,13 @@ fn compare(class: u8, a: Operand, b: Operand, c: Operand) -> OptionValue
     requires { ⌜ (6 ≤ class) × (class ≤ 11) ⌝ }
     ensures { λ r. ⌜ r ≡ evalOf class a b c ⌝ }
 {
-    match class {
-        class::COMPARE_EQUAL => comparison::equal(a, b),
-        class::COMPARE_NOT_EQUAL => comparison::not_equal(a, b),
-        class::COMPARE_LESS => comparison::less(a, b),
-        class::COMPARE_LESS_OR_EQUAL => comparison::less_or_equal(a, b),
-        class::COMPARE_GREATER => comparison::greater(a, b),
-        _ => comparison::greater_or_equal(a, b),
+    if class <= class::COMPARE_NOT_EQUAL {
+        return comparison::equality(class == class::COMPARE_EQUAL, a, b);
     }
+    let or_equal = (class == class::COMPARE_LESS_OR_EQUAL)
+        | (class == class::COMPARE_GREATER_OR_EQUAL);
+    let swapped = class::COMPARE_GREATER <= class;
+    comparison::order(or_equal, swapped, a, b)
 }
 
 // The logical gates.
@@ -111,22 +110,22 @@ fn shifts(class: u8, a: Operand, b: Operand, c: Operand) -> OptionValue
 pub fn eval_in(class: u8, a: Operand, b: Operand, c: Operand) -> OptionValue
     ensures { λ r. ⌜ r ≡ evalOf class a b c ⌝ }
 {
-    if class < class::COMPARE_EQUAL {
-        return OptionValue::None;
-    }
-    if class < class::LOGICAL_AND {
-        return compare(class, a, b, c);
-    }
-    if class < class::MATH_ADD {
-        return logical(class, a, b, c);
-    }
     if class < class::MATH_ABS {
+        if class < class::LOGICAL_AND {
+            if class < class::COMPARE_EQUAL {
+                return OptionValue::None;
+            }
+            return compare(class, a, b, c);
+        }
+        if class < class::MATH_ADD {
+            return logical(class, a, b, c);
+        }
         return math(class, a, b, c);
     }
-    if class < class::ROUND {
-        return extended_math(class, a, b, c);
-    }
     if class < class::BITWISE_AND {
+        if class < class::ROUND {
+            return extended_math(class, a, b, c);
+        }
         return rounding(class, a, b, c);
     }
     if class < class::BITWISE_SHIFT_LEFT {

@@ -1,67 +1,65 @@
 -- `semantics::compare` meets its contract.
-use mathlib.Core.Path.{_≡_, _∙_, sym, ap}
+use Prim.Native.Nat.{ℕ, zero, suc, _+_, _-_, _≤_}
+use mathlib.Core.Path.{_≡_, _∙_, refl, sym, subst}
+use mathlib.Core.Bool.{cond, _||_}
 use native.Mathlib.Omega.{arith}
+use lib.Dec.{eqb, leb}
+use Rattle.value.specs.declared.Operand.{Operand}
+use Rattle.value.specs.declared.OptionValue.{OptionValue}
+use Rattle.comparison.specs.Comparison.{equalOf, notEqualOf, lessOf, lessOrEqualOf, greaterOf, greaterOrEqualOf}
 use Rattle.semantics.specs.Eval.{evalOf}
 use borrow.Author.Needs.{needs}
 use Rattle.semantics.proofs.compare.Statement.{statement}
 use Rattle.semantics.proofs.compare.Tie as tie
 
-equal-requires : tie.Need-equal-requires
-equal-requires c κs = search needs
+module _ (x y z : Operand) where
+  -- what `equality` and `order` give for the Bools that the code makes of a class
+  abbrev byEquality : ℕ → OptionValue
+  byEquality n = cond (eqb n 6) (equalOf x y) (notEqualOf x y)
 
-not-equal-requires : tie.Need-not-equal-requires
-not-equal-requires c κs = search needs
+  abbrev byOrder : ℕ → OptionValue
+  byOrder n =
+      cond (leb 10 n)
+      (cond (eqb n 9 || eqb n 11) (greaterOrEqualOf x y) (greaterOf x y))
+      (cond (eqb n 9 || eqb n 11) (lessOrEqualOf x y) (lessOf x y))
 
-less-requires : tie.Need-less-requires
-less-requires c κs = search needs
+  from-equal : (k : ℕ) → k ≤ 1 → byEquality (6 + k) ≡ evalOf (6 + k) x y z
+  from-equal zero h = refl
+  from-equal (suc zero) h = refl
+  from-equal (suc (suc k)) h = let f : ⊥ = omega arith in absurd f
 
-less-or-equal-requires : tie.Need-less-or-equal-requires
-less-or-equal-requires c κs = search needs
+  from-less : (k : ℕ) → k ≤ 3 → byOrder (8 + k) ≡ evalOf (8 + k) x y z
+  from-less zero h = refl
+  from-less (suc zero) h = refl
+  from-less (suc (suc zero)) h = refl
+  from-less (suc (suc (suc zero))) h = refl
+  from-less (suc (suc (suc (suc k)))) h = let f : ⊥ = omega arith in absurd f
 
-greater-requires : tie.Need-greater-requires
-greater-requires c κs = search needs
+  equality-of : (n : ℕ) → 6 ≤ n → n ≤ 7 → byEquality n ≡ evalOf n x y z
+  equality-of n l m =
+      let e : 6 + (n - 6) ≡ n = omega arith in
+      subst (λ (i : ℕ). byEquality i ≡ evalOf i x y z) e (from-equal (n - 6) (omega arith))
 
-greater-or-equal-requires : tie.Need-greater-or-equal-requires
-greater-or-equal-requires c κs = search needs
+  order-of : (n : ℕ) → 8 ≤ n → n ≤ 11 → byOrder n ≡ evalOf n x y z
+  order-of n l m =
+      let e : 8 + (n - 8) ≡ n = omega arith in
+      subst (λ (i : ℕ). byOrder i ≡ evalOf i x y z) e (from-less (n - 8) (omega arith))
+
+equality-requires : tie.Need-equality-requires
+equality-requires c κs = search needs
 
 returns : tie.Need-returns
 returns c =
-    c .equal .ensures ∙ ap (λ n. evalOf n (c .before .before .args .a) (c .before .before .args .b) (c .before .before .args .c)) (sym (c .before .match .keys1))
+    c .equality .ensures
+    ∙ equality-of (c .before .before .args .a) (c .before .before .args .b) (c .before .before .args .c) (c .before .before .args .class) (omega arith) (omega arith)
+
+order-requires : tie.Need-order-requires
+order-requires c κs = search needs
 
 returns-2 : tie.Need-returns-2
 returns-2 c =
-    c .not-equal .ensures ∙ ap (λ n. evalOf n (c .before .before .args .a) (c .before .before .args .b) (c .before .before .args .c)) (sym (c .before .match .keys2))
-
-returns-3 : tie.Need-returns-3
-returns-3 c =
-    c .less .ensures ∙ ap (λ n. evalOf n (c .before .before .args .a) (c .before .before .args .b) (c .before .before .args .c)) (sym (c .before .match .keys3))
-
-returns-4 : tie.Need-returns-4
-returns-4 c =
-    c .less-or-equal .ensures ∙ ap (λ n. evalOf n (c .before .before .args .a) (c .before .before .args .b) (c .before .before .args .c)) (sym (c .before .match .keys4))
-
-returns-5 : tie.Need-returns-5
-returns-5 c =
-    c .greater .ensures ∙ ap (λ n. evalOf n (c .before .before .args .a) (c .before .before .args .b) (c .before .before .args .c)) (sym (c .before .match .keys5))
-
-returns-6 : tie.Need-returns-6
-returns-6 c =
-    let e : 11 ≡ c .before .before .args .class = omega arith in
-    c .greater-or-equal .ensures ∙ ap (λ n. evalOf n (c .before .before .args .a) (c .before .before .args .b) (c .before .before .args .c)) e
+    c .order .ensures
+    ∙ order-of (c .before .before .args .a) (c .before .before .args .b) (c .before .before .args .c) (c .before .before .args .class) (omega arith) (omega arith)
 
 pub compare-spec : {M : Type 1} → statement M
-compare-spec =
-    tie.close
-    (tie.spec
-    equal-requires
-    not-equal-requires
-    less-requires
-    less-or-equal-requires
-    greater-requires
-    greater-or-equal-requires
-    returns
-    returns-2
-    returns-3
-    returns-4
-    returns-5
-    returns-6)
+compare-spec = tie.close (tie.spec equality-requires returns order-requires returns-2)

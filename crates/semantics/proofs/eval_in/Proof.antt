@@ -24,7 +24,7 @@ past : (n : ℕ) → 42 ≤ n → (x y z : Operand) → OptionValue.None ≡ eva
 past n h x y z = sym (ap (λ (r : Rule). r x y z) (List·getD-eq-default rules none {n = n} h))
 
 returns : tie.Need-returns
-returns c = before (c .before .args .class) (omega arith) (c .before .args .a) (c .before .args .b) (c .before .args .c)
+returns c = before (c .before .before .before .args .class) (omega arith) (c .before .before .before .args .a) (c .before .before .before .args .b) (c .before .before .before .args .c)
 
 compare-requires : tie.Need-compare-requires
 compare-requires c κs = search needs
@@ -69,7 +69,7 @@ returns-8 : tie.Need-returns-8
 returns-8 c = search needs
 
 returns-9 : tie.Need-returns-9
-returns-9 c = past (c .before .before .before .before .before .before .before .before .args .class) (omega arith) (c .before .before .before .before .before .before .before .before .args .a) (c .before .before .before .before .before .before .before .before .args .b) (c .before .before .before .before .before .before .before .before .args .c)
+returns-9 c = past (c .before .before .before .before .args .class) (omega arith) (c .before .before .before .before .args .a) (c .before .before .before .before .args .b) (c .before .before .before .before .args .c)
 
 pub eval-in-spec : {M : Type 1} → statement M
 eval-in-spec =

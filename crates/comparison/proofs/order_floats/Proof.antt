@@ -1,7 +1,7 @@
--- `comparison::less_float` meets its contract.
+-- `comparison::order_floats` meets its contract.
 use borrow.Author.Needs.{needs}
-use Rattle.comparison.proofs.less_float.Statement.{statement}
-use Rattle.comparison.proofs.less_float.Tie as tie
+use Rattle.comparison.proofs.order_floats.Statement.{statement}
+use Rattle.comparison.proofs.order_floats.Tie as tie
 
 scalar-requires : tie.Need-scalar-requires
 scalar-requires c κs = search needs
@@ -27,11 +27,14 @@ enum-told-2 c = search needs
 returns-2 : tie.Need-returns-2
 returns-2 c = search needs
 
-returns-3 : tie.Need-returns-3
-returns-3 c = rw (← c .before .before .before .before .before .before .before .scalar .ensures, c .before .before .before .before .before .x .given .1, ← c .before .before .before .scalar2 .ensures, c .before .y .given .1)
+order-float-requires : tie.Need-order-float-requires
+order-float-requires c κs = search needs
 
-pub less-float-spec : {M : Type 1} → statement M
-less-float-spec =
+returns-3 : tie.Need-returns-3
+returns-3 c = rw (← c .before .before .before .before .before .before .before .before .scalar .ensures, c .before .before .before .before .before .before .x .given .1, ← c .before .before .before .before .scalar2 .ensures, c .before .before .y .given .1) (search (needs, c .order-float .ensures))
+
+pub order-floats-spec : {M : Type 1} → statement M
+order-floats-spec =
     tie.close
     (tie.spec
     scalar-requires
@@ -42,4 +45,5 @@ less-float-spec =
     enum-known-y
     enum-told-2
     returns-2
+    order-float-requires
     returns-3)
