@@ -153,9 +153,9 @@ module _ (g : Graph) (class : ℕ) (i : Resolved) {v : ℕ} (variant : v ≡ var
       ∙ covers-same g class h i Resolved.Unwired Resolved.Unwired
       ∙ ap (λ (b : Bool). b && covers g class (operandOf i ∷ [])) (and-true (isResolved i))
 
-  pub condition-covered : t ≡ true → {o : Operand} → o ≡ operandOf i → {b : Bool} → b ≡ truthyOf o → some b ≡ resolveCondition g class i
+  pub condition-covered : t ≡ true → {b : Bool} → b ≡ truthyOf (operandOf i) → some b ≡ resolveCondition g class i
   unfolding resolveCondition
-  condition-covered e p f = rw (← same, e, f, p)
+  condition-covered e f = rw (← same, e, f)
 
   pub condition-uncovered : t ≡ false → none ≡ resolveCondition g class i
   unfolding resolveCondition

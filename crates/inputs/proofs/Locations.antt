@@ -1,60 +1,121 @@
--- Where an input is found, by the wires of its port.
-use Prim.Native.Nat.{ℕ, _≤_, _<_}
+-- Where an input is found, and the word that holds it where it is a scalar.
+use Prim.Native.Nat.{ℕ, _+_, _*_, _-_, _≤_, _<_}
 use native.Mathlib.Omega.{arith}
-use mathlib.Core.Path.{_≡_, refl, sym, ap, subst, _∙_}
-use mathlib.Core.Bool.{Bool, true, false, _&&_, false≢true}
+use mathlib.Core.Path.{_≡_, refl, sym, subst, _∙_}
+use mathlib.Core.Bool.{Bool, true, false, cond, _&&_, false≢true}
+use mathlib.Core.Option.{Option, none, some}
 use mathlib.Core.List.{List}
+use lib.Arith.{lt-of-le-ne}
+use lib.Dec.{eqb, leb}
+use lib.ListN.{getD}
+use borrow.Author.Tests.{eqb-true, eqb-false, leb-true, ne-eqb}
 use Rattle.ir.specs.Limits.{maxNodes}
-use Rattle.graph.specs.Decode.{graphOf}
+use Rattle.value.specs.declared.Value.{Value}
+use Rattle.value.specs.declared.Operand.{Operand}
+use Rattle.encoding.specs.Values.{valueAt}
 use Rattle.graph.specs.declared.Row.{Row}
 use Rattle.graph.proofs.Roles.{and-left}
 use Rattle.table.specs.Table.{covers, hasCell}
 use Rattle.table.proofs.Search.{Listed, listed}
-use Rattle.model.specs.Inputs.{property, carried, orProperty, operandOf}
+use Rattle.model.specs.Maps.{Map}
+use Rattle.model.specs.Inputs.{carried, operandOf}
 use Rattle.model.specs.declared.Resolved.{Resolved}
-use Rattle.state.specs.Held.{knownOf}
-use Rattle.inputs.specs.Inputs.{inputIf, portOf, variantIn, AtSource, Locates}
+use Rattle.state.specs.Held.{heldValue, held, knownOf}
+use Rattle.inputs.specs.Inputs.{kindVariant, wordAt, scalarOperand, Locates}
 use Rattle.inputs.specs.declared.Located.{Located}
-use Rattle.inputs.proofs.Conditions.{same-operand, has-input, no-input}
+use Rattle.inputs.proofs.Conditions.{held-some, value-at}
 
 -- a row that the table has names a variant for each place
 pub row-listed : (rows : List Row) (r : Row) {t : Bool} → t ≡ (hasCell r && covers rows r) → t ≡ true → Listed r
 row-listed rows r e k = listed r (and-left (hasCell r) (covers rows r) (sym e ∙ k))
 
-module _ (input kinds : List ℕ) (n p : ℕ) where
-  abbrev port : List ℕ → Resolved
-  port words = portOf input kinds words n p
+-- ---- scalars
 
-  module _ {has : Bool} (h : has ≡ true) where
-    pub no-wire : {l : Located} → l ≡ record { variant = variantIn (orProperty Resolved.Unwired (property (graphOf input) n p)); wired = false; source = 0 }
-        → ((words : List ℕ) → orProperty Resolved.Unwired (property (graphOf input) n p) ≡ port words) → Locates has input kinds n p l
-    no-wire {l} e q =
-        record {
-          variant = λ words. ap (λ (x : Located). x .variant) e ∙ ap variantIn (q words ∙ has-input (port words) h);
-          by-wire = λ w. absurd (false≢true (sym (ap (λ (x : Located). x .wired) e) ∙ w));
-          by-property = λ w few k words. sym (same-operand (property (graphOf input) n p) ∙ ap operandOf (q words ∙ has-input (port words) h));
-        }
+-- the kinds of scalars are 03 to 05
+beyond : (k : ℕ) → (k ≡ 3 → ⊥) → (k ≡ 4 → ⊥) → (k ≡ 5 → ⊥) → kindVariant k ≤ 3 → ⊥
+beyond k n3 n4 n5 = go (leb 3 k && leb k 8) refl
+  where
+    past : (m : ℕ) → m ≤ k → (k ≡ m → ⊥) → m < k
+    past m h n = lt-of-le-ne h (λ z. n (sym z))
 
-    pub one-wire : {l : Located} (m : ℕ) → m < maxNodes → AtSource kinds m l → ((words : List ℕ) → carried (knownOf kinds words m) ≡ port words) → Locates has input kinds n p l
-    one-wire {l} m few a q =
-        record {
-          variant = λ words. a .variant words ∙ ap variantIn (q words ∙ has-input (port words) h);
-          by-wire = λ w. (subst (λ (x : ℕ). x < maxNodes) (sym (a .source)) few, λ words. sym (ap (λ (x : ℕ). operandOf (carried (knownOf kinds words x))) (a .source) ∙ ap operandOf (q words ∙ has-input (port words) h)));
-          by-property = λ w. absurd (false≢true (sym w ∙ a .wired));
-        }
+    go : (b : Bool) → (leb 3 k && leb k 8) ≡ b → cond b (k - 2) 7 ≤ 3 → ⊥
+    go true e h = omega (arith, h, past 5 (past 4 (past 3 (leb-true 3 k (and-left (leb 3 k) (leb k 8) e)) n3) n4) n5)
+    go false e h = omega (arith, h)
 
-    pub fan-in : ((words : List ℕ) → Resolved.Unresolved ≡ port words) → Locates has input kinds n p (record { variant = 8; wired = false; source = 0 })
-    fan-in q =
-        record {
-          variant = λ words. ap variantIn (q words ∙ has-input (port words) h);
-          by-wire = λ w. absurd (false≢true w);
-          by-property = λ w few. absurd (omega (arith, few));
-        }
+-- a value by its kind, where word w holds the scalars
+module _ (k w : ℕ) (x y z other : Value) (int : k ≡ 3 → Operand.Known x ≡ scalarOperand 1 w) (float : k ≡ 4 → Operand.Known y ≡ scalarOperand 2 w) (bool : k ≡ 5 → Operand.Known z ≡ scalarOperand 3 w) (h : kindVariant k ≤ 3) where
+  abbrev Goal : Type 0
+  Goal = Operand.Known (cond (eqb k 3) x (cond (eqb k 4) y (cond (eqb k 5) z other))) ≡ scalarOperand (kindVariant k) w
 
-  pub not-there : {has : Bool} → has ≡ false → Locates has input kinds n p (record { variant = 0; wired = false; source = 0 })
-  not-there h =
+  by-word : Goal
+  by-word = from3 (eqb k 3) refl
+    where
+      from5 : (b : Bool) → eqb k 5 ≡ b → eqb k 3 ≡ false → eqb k 4 ≡ false → Goal
+      from5 true e n3 n4 = rw (eqb-true k 5 e) (bool (eqb-true k 5 e))
+      from5 false e n3 n4 = absurd (beyond k (eqb-false k 3 n3) (eqb-false k 4 n4) (eqb-false k 5 e) h)
+
+      from4 : (b : Bool) → eqb k 4 ≡ b → eqb k 3 ≡ false → Goal
+      from4 true e n3 = rw (eqb-true k 4 e) (float (eqb-true k 4 e))
+      from4 false e n3 = from5 (eqb k 5) refl n3 e
+
+      from3 : (b : Bool) → eqb k 3 ≡ b → Goal
+      from3 true e = rw (eqb-true k 3 e) (int (eqb-true k 3 e))
+      from3 false e = from4 (eqb k 4) refl e
+
+held-word : (k a b c d : ℕ) → kindVariant k ≤ 3 → Operand.Known (heldValue k a b c d) ≡ scalarOperand (kindVariant k) a
+unfolding heldValue
+held-word k a b c d = by-word k a _ _ _ _ (λ e. refl) (λ e. refl) (λ e. refl)
+
+word-at : (k : ℕ) (s : List ℕ) (i : ℕ) → kindVariant k ≤ 3 → Operand.Known (valueAt k s i) ≡ scalarOperand (kindVariant k) (wordAt k s i)
+unfolding valueAt
+word-at k s i = by-word k (wordAt k s i) _ _ _ _ (λ e. rw e refl) (λ e. rw e refl) (λ e. rw e refl)
+
+-- ---- where an input is found
+
+pub same-input : {i j : Resolved} {o : Option Value} {known : Map Value} {l : Located} → i ≡ j → Locates i o known l → Locates j o known l
+same-input {o = o} {known = known} {l = l} e f = subst (λ (i : Resolved). Locates i o known l) e f
+
+module _ (o : Option Value) (known : Map Value) where
+  pub unwired : Locates Resolved.Unwired o known (record { variant = 0; word = 0; wired = false; source = 0 })
+  unwired = record { variant = refl; scalar = λ h. refl; within = λ w. absurd (false≢true w); by-wire = λ w. absurd (false≢true w); by-property = λ w h. absurd (omega (arith, h)) }
+
+  pub unresolved : Locates Resolved.Unresolved o known (record { variant = 8; word = 0; wired = false; source = 0 })
+  unresolved =
       record {
-        variant = λ words. ap variantIn (no-input (port words) h);
+        variant = refl;
+        scalar = λ h. absurd (omega (arith, h));
+        within = λ w. absurd (false≢true w);
         by-wire = λ w. absurd (false≢true w);
-        by-property = λ w few k. absurd (false≢true (sym h ∙ k));
+        by-property = λ w h few. absurd (omega (arith, few));
       }
+
+-- an input with no value
+pub unwired-operand : {i : Resolved} {o : Option Value} {known : Map Value} {l : Located} → Locates i o known l → l .variant ≡ 0 → operandOf i ≡ Operand.Unwired
+unwired-operand {l = l} f e = f .scalar (omega (arith, e)) ∙ rw e refl
+
+pub at-property : (k : ℕ) (s : List ℕ) (i : ℕ) (known : Map Value)
+    → Locates (Resolved.Known (valueAt k s i)) (some (valueAt k s i)) known (record { variant = kindVariant k; word = wordAt k s i; wired = false; source = 0 })
+at-property k s i known =
+    record {
+      variant = sym (value-at k s i);
+      scalar = word-at k s i;
+      within = λ w. absurd (false≢true w);
+      by-wire = λ w. absurd (false≢true w);
+      by-property = λ w h few. refl;
+    }
+
+pub unknown-source : (kinds words : List ℕ) (m : ℕ) → getD kinds m 0 ≡ 0 → (o : Option Value) → Locates (carried (knownOf kinds words m)) o (knownOf kinds words) (record { variant = 8; word = 0; wired = false; source = 0 })
+unfolding knownOf held
+unknown-source kinds words m e o = rw e (unresolved o (knownOf kinds words))
+
+pub at-source : (kinds words : List ℕ) (m : ℕ) → m < maxNodes → (getD kinds m 0 ≡ 0 → ⊥) → (o : Option Value)
+    → Locates (carried (knownOf kinds words m)) o (knownOf kinds words) (record { variant = kindVariant (getD kinds m 0); word = getD words (4 * m) 0; wired = true; source = m })
+unfolding knownOf held
+at-source kinds words m few e o =
+    record {
+      variant = held-some _ _ _ _ _ e;
+      scalar = λ h. rw (ne-eqb (getD kinds m 0) 0 e) (held-word _ _ _ _ _ h);
+      within = λ w. few;
+      by-wire = λ w. refl;
+      by-property = λ w. absurd (false≢true (sym w));
+    }

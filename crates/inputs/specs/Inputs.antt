@@ -7,14 +7,19 @@ use mathlib.Core.List.{List}
 use lib.Dec.{eqb, leb}
 use lib.ListN.{getD}
 use Rattle.ir.specs.declared.Wire.{Wire}
+use lib.Ieee.{ofBits, binary64}
+use Rattle.whole.specs.Bits.{fromBits}
+use Rattle.value.specs.declared.Value.{Value}
+use Rattle.value.specs.declared.Operand.{Operand}
 use Rattle.value.specs.Variants.{variantOf}
+use Rattle.encoding.specs.Numbers.{byte, u64At}
 use Rattle.graph.specs.Graph.{Graph}
 use Rattle.graph.specs.Decode.{graphOf}
 use Rattle.graph.specs.Index.{Indexed}
 use Rattle.records.specs.Access.{wiresOf, Bounded}
-use Rattle.model.specs.Maps.{keep}
+use Rattle.model.specs.Maps.{Map, keep}
 use Rattle.ir.specs.Limits.{maxNodes}
-use Rattle.model.specs.Inputs.{size, isPort, property, carried, operandOf, resolveInput, resolveDataInput}
+use Rattle.model.specs.Inputs.{size, isPort, carried, operandOf, resolveInput, resolveDataInput}
 use Rattle.model.specs.declared.Resolved.{Resolved}
 use Rattle.wire_index.specs.Chains.{Feeds as Chains}
 use Rattle.state.specs.Held.{knownOf}
@@ -79,14 +84,22 @@ variantIn Resolved.Unresolved = 8
 
 -- ---- where an input is found
 
--- one wire, from node n
-pub record AtSource (kinds : List ℕ) (n : ℕ) (l : Located) : Type 0 where
-  pub wired : l .wired ≡ true
-  pub source : l .source ≡ n
-  pub variant : (words : List ℕ) → l .variant ≡ variantIn (carried (knownOf kinds words n))
+-- the word that holds a scalar property of a kind, whose bytes stand from an offset on
+abbrev pub wordAt : ℕ → List ℕ → ℕ → ℕ
+wordAt kind s i = cond (eqb kind 5) (byte s i) (u64At s i)
 
--- the input at port p of node n, where there is one
-pub record Locates (has : Bool) (input kinds : List ℕ) (n p : ℕ) (l : Located) : Type 0 where
-  pub variant : (words : List ℕ) → l .variant ≡ variantIn (inputIf has (portOf input kinds words n p))
-  pub by-wire : l .wired ≡ true → (l .source < maxNodes) × ((words : List ℕ) → operandOf (inputIf has (portOf input kinds words n p)) ≡ operandOf (carried (knownOf kinds words (l .source))))
-  pub by-property : l .wired ≡ false → l .variant ≤ 7 → has ≡ true → (words : List ℕ) → operandOf (inputIf has (portOf input kinds words n p)) ≡ operandOf (carried (property (graphOf input) n p))
+-- the operand of a variant up to Bool, which a word holds
+abbrev pub scalarOperand : ℕ → ℕ → Operand
+scalarOperand variant word =
+    cond (eqb variant 0) Operand.Unwired
+    (cond (eqb variant 1) (Operand.Known (Value.Int (fromBits word)))
+    (cond (eqb variant 2) (Operand.Known (Value.Float (ofBits binary64 word)))
+    (Operand.Known (Value.Bool (eqb word 1)))))
+
+-- an input of a node, by its property there and the known values
+pub record Locates (i : Resolved) (property : Option Value) (known : Map Value) (l : Located) : Type 0 where
+  pub variant : l .variant ≡ variantIn i
+  pub scalar : l .variant ≤ 3 → operandOf i ≡ scalarOperand (l .variant) (l .word)
+  pub within : l .wired ≡ true → l .source < maxNodes
+  pub by-wire : l .wired ≡ true → operandOf i ≡ operandOf (carried (known (l .source)))
+  pub by-property : l .wired ≡ false → 0 < l .variant → l .variant ≤ 7 → operandOf i ≡ operandOf (carried property)

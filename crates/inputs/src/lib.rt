@@ -1,4 +1,5 @@
 // What the input ports of a node have, by what is known: lower/fold/mod.rs from `resolve_input` to `resolve_condition`.
+use encoding::numbers;
 use graph::SLOTS;
 use ir::kind;
 use ir::limit;
@@ -10,21 +11,25 @@ use state::WORDS;
 use table::CELLS;
 use value::Operand;
 use value::OptionValue;
+use value::Value;
 ghost use mathlib.Core.Path.{_≡_};
-ghost use mathlib.Core.Bool.{false};
-ghost use Prim.Native.Nat.{ℕ, _<_, _≤_};
+ghost use mathlib.Core.Bool.{true, false};
+ghost use mathlib.Core.Option.{Option};
+ghost use Prim.Native.Nat.{ℕ, _+_, _<_, _≤_};
 ghost use lib.ListN.{length, getD};
 ghost use Rattle.ir.specs.Limits.{maxNodes, maxWires};
 ghost use Rattle.ir.specs.Ports.{valuePort};
-ghost use Rattle.graph.specs.Graph.{lookup};
+ghost use Rattle.encoding.specs.Values.{valueSize};
 ghost use Rattle.graph.specs.Decode.{graphOf};
 ghost use Rattle.graph.specs.Index.{Indexed, slot};
 ghost use Rattle.records.specs.Access.{wiresOf, noWire};
 ghost use Rattle.table.specs.Table.{Cells};
-ghost use Rattle.model.specs.Inputs.{size, optional, carried as carriedOf, orProperty, resolveWires, operandOf};
+ghost use Rattle.conversions.specs.Conversions.{truthyOf};
+ghost use Rattle.model.specs.Maps.{Map};
+ghost use Rattle.model.specs.Inputs.{size, optional, property, carried as carriedOf, orProperty, resolveWires, operandOf};
 ghost use Rattle.model.specs.Offer.{resolveCondition};
 ghost use Rattle.state.specs.Held.{knownOf};
-ghost use Rattle.inputs.specs.Inputs.{feedsIn, feedsOf, Wired, Inputs, portOf, inputIf, truth, kindVariant, variantIn, AtSource, Locates};
+ghost use Rattle.inputs.specs.Inputs.{feedsIn, feedsOf, Wired, Inputs, portOf, inputIf, truth, kindVariant, wordAt, scalarOperand, Locates};
 
 // The wires into a port: none, one with its number, or more.
 pub enum Feeds {
@@ -156,55 +161,81 @@ fn variant_of(kind: u8) -> u8
     }
 }
 
-// The variant of a node's property, or Unwired where it has none.
-fn property_variant(input: &[u8], table: &[u16; SLOTS], node: usize, port: u8) -> u8
-    requires { ⌜ (node < maxNodes) × (port ≤ valuePort) × Indexed (graphOf (now input) .properties) (now input) (now table) ⌝ }
-    ensures { λ r. ⌜ r ≡ variantIn (orProperty Resolved.Unwired (optional (lookup node port (graphOf (now (input .entry)) .properties)))) ⌝ }
+fn word(x: u8) -> u64
+    ensures { λ r. ⌜ r ≡ x ⌝ }
 {
-    let i = node * port::COUNT + wide(port);
-    let at = wide_number(table[i]);
-    if at == 0 {
-        return variant::UNWIRED;
-    }
-    variant_of(input[at])
+    x as u64
 }
 
-// Where what a port has is found: its variant, and of one with a single wire the node that the wire starts at.
+// The word that holds a scalar property, whose bytes stand at an offset.
+fn read_word(kind: u8, s: &[u8], at: usize) -> u64
+    requires { ⌜ (3 ≤ kind) × (kind ≤ 9) × (at + valueSize kind ≤ length (now s)) ⌝ }
+    ensures { λ r. ⌜ r ≡ wordAt kind (now (s .entry)) at ⌝ }
+{
+    if kind == kind::BOOL {
+        return word(s[at]);
+    }
+    numbers::read_u64(s, at)
+}
+
+// What a port has: its variant, of a scalar the word that holds it, and of one with a single wire the node that the wire starts at.
 pub struct Located {
     pub variant: u8,
+    pub word: u64,
     pub wired: bool,
     pub source: usize,
+}
+
+// A port with no value.
+fn nowhere(variant: u8) -> Located
+    ensures { λ r. ⌜ r ≡ record { variant = variant; word = 0; wired = false; source = 0 } ⌝ }
+{
+    Located {
+        variant,
+        word: 0,
+        wired: false,
+        source: 0,
+    }
 }
 
 // A port with no wire.
 fn locate_property(input: &[u8], table: &[u16; SLOTS], node: usize, port: u8) -> Located
     requires { ⌜ (node < maxNodes) × (port ≤ valuePort) × Indexed (graphOf (now input) .properties) (now input) (now table) ⌝ }
-    ensures { λ r. ⌜ r ≡ record { variant = variantIn (orProperty Resolved.Unwired (optional (lookup node port (graphOf (now (input .entry)) .properties)))); wired = false; source = 0 } ⌝ }
+    ensures { λ r. ⌜ ((known : Map Value) → Locates (orProperty Resolved.Unwired (property (graphOf (now (input .entry))) node port)) (property (graphOf (now (input .entry))) node port) known r) ⌝ }
 {
+    let i = node * port::COUNT + wide(port);
+    let at = wide_number(table[i]);
+    if at == 0 {
+        return nowhere(variant::UNWIRED);
+    }
+    let kind = input[at];
     Located {
-        variant: property_variant(input, table, node, port),
+        variant: variant_of(kind),
+        word: read_word(kind, input, at + 4),
         wired: false,
         source: 0,
     }
 }
 
 // A port with one wire.
-fn locate_source(wires: &[u8], kinds: &[u8; limit::NODES], wire: u16) -> Located
+fn locate_source(
+    wires: &[u8],
+    kinds: &[u8; limit::NODES],
+    words: &[u64; WORDS],
+    wire: u16,
+) -> Located
     requires { ⌜ (wire < length (wiresOf (now wires))) × (getD (wiresOf (now wires)) wire noWire .source .«node_id» < maxNodes) ⌝ }
-    ensures { λ r. ⌜ AtSource (now (kinds .entry)) (getD (wiresOf (now (wires .entry))) wire noWire .source .«node_id») r ⌝ }
+    ensures { λ r. ⌜ ((o : Option Value) → Locates (carriedOf (knownOf (now (kinds .entry)) (now (words .entry)) (getD (wiresOf (now (wires .entry))) wire noWire .source .«node_id»))) o (knownOf (now (kinds .entry)) (now (words .entry))) r) ⌝ }
 {
     let read = access::wire(wires, wide_number(wire));
     let source = read.source.node_id;
     let kind = kinds[source];
     if kind == state::UNKNOWN {
-        return Located {
-            variant: UNRESOLVED,
-            wired: true,
-            source,
-        };
+        return nowhere(UNRESOLVED);
     }
     Located {
         variant: variant_of(kind),
+        word: state::first_word(words, source),
         wired: true,
         source,
     }
@@ -219,28 +250,21 @@ pub fn locate(
     first: &[u16; SLOTS],
     next: &[u16; limit::WIRES],
     kinds: &[u8; limit::NODES],
+    words: &[u64; WORDS],
     node: usize,
     port: u8,
 ) -> Located
     requires { ⌜ Inputs (graphOf (now input)) (now input) (now table) (now wires) (now first) (now next) × (node < size (graphOf (now input))) × (port ≤ valuePort) ⌝ }
-    ensures { λ r. ⌜ Locates has (now (input .entry)) (now (kinds .entry)) node port r ⌝ }
+    ensures { λ r. ⌜ Locates (inputIf has (portOf (now (input .entry)) (now (kinds .entry)) (now (words .entry)) node port)) (property (graphOf (now (input .entry))) node port) (knownOf (now (kinds .entry)) (now (words .entry))) r ⌝ }
 {
     if has {
         match feeds_of(first, next, node, port) {
             Feeds::None => locate_property(input, table, node, port),
-            Feeds::One(wire) => locate_source(wires, kinds, wire),
-            Feeds::Many => Located {
-                variant: UNRESOLVED,
-                wired: false,
-                source: 0,
-            },
+            Feeds::One(wire) => locate_source(wires, kinds, words, wire),
+            Feeds::Many => nowhere(UNRESOLVED),
         }
     } else {
-        Located {
-            variant: variant::UNWIRED,
-            wired: false,
-            source: 0,
-        }
+        nowhere(variant::UNWIRED)
     }
 }
 
@@ -254,9 +278,22 @@ fn operand_of(known: OptionValue) -> Operand
     Operand::Known(v)
 }
 
-// The operand at a port that is located and not Unresolved.
-pub fn operand_at(
-    has: bool,
+// A scalar as operand.
+fn scalar(variant: u8, word: u64) -> Operand
+    requires { ⌜ 0 < variant ⌝ }
+    ensures { λ r. ⌜ r ≡ scalarOperand variant word ⌝ }
+{
+    if variant == variant::INT {
+        return Operand::Known(Value::Int(whole::from_bits(word)));
+    }
+    if variant == variant::FLOAT {
+        return Operand::Known(Value::Float(ieee::from_bits(word)));
+    }
+    Operand::Known(Value::Bool(word == 1))
+}
+
+// The operand at a port that has a value, read where it is found.
+fn load_operand(
     located: Located,
     input: &[u8],
     table: &[u16; SLOTS],
@@ -265,16 +302,55 @@ pub fn operand_at(
     node: usize,
     port: u8,
 ) -> Operand
-    requires { ⌜ (node < maxNodes) × (port ≤ valuePort) × Indexed (graphOf (now input) .properties) (now input) (now table) × Locates has (now input) (now kinds) node port located × (located .variant ≤ 7) ⌝ }
-    ensures { λ r. ⌜ r ≡ operandOf (inputIf has (portOf (now (input .entry)) (now (kinds .entry)) (now (words .entry)) node port)) ⌝ }
+    requires { ⌜ (node < maxNodes) × (port ≤ valuePort) × Indexed (graphOf (now input) .properties) (now input) (now table) × (located .wired ≡ true → located .source < maxNodes) ⌝ }
+    ensures { λ r. ⌜ ((i : Resolved) → Locates i (property (graphOf (now (input .entry))) node port) (knownOf (now (kinds .entry)) (now (words .entry))) located → 0 < located .variant → located .variant ≤ 7 → r ≡ operandOf i) ⌝ }
 {
     if located.wired {
         return operand_of(state::load(kinds, words, located.source));
     }
-    if has {
-        return operand_of(access::property(input, table, node, port));
+    operand_of(access::property(input, table, node, port))
+}
+
+// The operand at a port that is located and not Unresolved. A scalar is at hand.
+pub fn operand_at(
+    located: Located,
+    input: &[u8],
+    table: &[u16; SLOTS],
+    kinds: &[u8; limit::NODES],
+    words: &[u64; WORDS],
+    node: usize,
+    port: u8,
+) -> Operand
+    requires { ⌜ (node < maxNodes) × (port ≤ valuePort) × Indexed (graphOf (now input) .properties) (now input) (now table) × (located .wired ≡ true → located .source < maxNodes) ⌝ }
+    ensures { λ r. ⌜ ((i : Resolved) → Locates i (property (graphOf (now (input .entry))) node port) (knownOf (now (kinds .entry)) (now (words .entry))) located → located .variant ≤ 7 → r ≡ operandOf i) ⌝ }
+{
+    if located.variant == variant::UNWIRED {
+        return Operand::Unwired;
     }
-    Operand::Unwired
+    if located.variant <= variant::BOOL {
+        return scalar(located.variant, located.word);
+    }
+    let operand = load_operand(located, input, table, kinds, words, node, port);
+    operand
+}
+
+// The truth of what a port has, where it is located and not Unresolved.
+fn truthy_at(
+    located: Located,
+    input: &[u8],
+    table: &[u16; SLOTS],
+    kinds: &[u8; limit::NODES],
+    words: &[u64; WORDS],
+    node: usize,
+    port: u8,
+) -> bool
+    requires { ⌜ (node < maxNodes) × (port ≤ valuePort) × Indexed (graphOf (now input) .properties) (now input) (now table) × (located .wired ≡ true → located .source < maxNodes) ⌝ }
+    ensures { λ r. ⌜ ((i : Resolved) → Locates i (property (graphOf (now (input .entry))) node port) (knownOf (now (kinds .entry)) (now (words .entry))) located → located .variant ≤ 7 → r ≡ truthyOf (operandOf i)) ⌝ }
+{
+    if located.variant == variant::UNWIRED {
+        return false;
+    }
+    conversions::truthy(load_operand(located, input, table, kinds, words, node, port))
 }
 
 // The truth of the condition at a port of a Select or a Branch: one that is resolved, and whose one-variant row is in the table.
@@ -294,7 +370,18 @@ pub fn resolve_condition(
     requires { ⌜ Inputs (graphOf (now input)) (now input) (now table) (now wires) (now first) (now next) × Cells (graphOf (now input) .rows) (now rows) × (class < 42) × (node < size (graphOf (now input))) × (port ≤ valuePort) ⌝ }
     ensures { λ r. ⌜ truth r ≡ resolveCondition (graphOf (now (input .entry))) class (portOf (now (input .entry)) (now (kinds .entry)) (now (words .entry)) node port) ⌝ }
 {
-    let located = locate(true, input, table, wires, first, next, kinds, node, port);
+    let located = locate(
+        true,
+        input,
+        table,
+        wires,
+        first,
+        next,
+        kinds,
+        words,
+        node,
+        port,
+    );
     if table::covers(
         rows,
         class,
@@ -302,8 +389,7 @@ pub fn resolve_condition(
         variant::UNWIRED,
         variant::UNWIRED,
     ) {
-        let condition = operand_at(true, located, input, table, kinds, words, node, port);
-        return OptionBool::Some(conversions::truthy(condition));
+        return OptionBool::Some(truthy_at(located, input, table, kinds, words, node, port));
     }
     OptionBool::None
 }

@@ -119,6 +119,7 @@ fn evaluate(
         first,
         next,
         kinds,
+        words,
         n,
         port::INPUT_A,
     );
@@ -130,6 +131,7 @@ fn evaluate(
         first,
         next,
         kinds,
+        words,
         n,
         port::INPUT_B,
     );
@@ -141,13 +143,14 @@ fn evaluate(
         first,
         next,
         kinds,
+        words,
         n,
         port::THIRD_INPUT,
     );
     if table::covers(rows, class, a.variant, b.variant, c.variant) {
-        let x = inputs::operand_at(true, a, input, table, kinds, words, n, port::INPUT_A);
-        let y = inputs::operand_at(second, b, input, table, kinds, words, n, port::INPUT_B);
-        let z = inputs::operand_at(third, c, input, table, kinds, words, n, port::THIRD_INPUT);
+        let x = inputs::operand_at(a, input, table, kinds, words, n, port::INPUT_A);
+        let y = inputs::operand_at(b, input, table, kinds, words, n, port::INPUT_B);
+        let z = inputs::operand_at(c, input, table, kinds, words, n, port::THIRD_INPUT);
         return evaluate_operands(class, x, y, z);
     }
     OptionValue::None

@@ -7,8 +7,9 @@ use value::Value;
 ghost use mathlib.Core.Path.{_≡_};
 ghost use mathlib.Core.List.{List};
 ghost use mathlib.Core.Option.{none};
-ghost use Prim.Native.Nat.{ℕ, _<_};
+ghost use Prim.Native.Nat.{ℕ, _*_, _<_};
 ghost use lib.Dec.{eqb};
+ghost use lib.ListN.{getD};
 ghost use Rattle.ir.specs.Limits.{maxNodes};
 ghost use Rattle.encoding.specs.Values.{kindOf};
 ghost use Rattle.graph.specs.Graph.{Graph};
@@ -156,6 +157,14 @@ pub fn is_known(kinds: &[u8; limit::NODES], n: usize) -> bool
     ensures { λ r. ⌜ ((words : List ℕ) → r ≡ isSome (knownOf (now (kinds .entry)) words n)) ⌝ }
 {
     kinds[n] != UNKNOWN
+}
+
+// The first of the words that hold what is known of a node: all of a scalar.
+pub fn first_word(words: &[u64; WORDS], n: usize) -> u64
+    requires { ⌜ n < maxNodes ⌝ }
+    ensures { λ r. ⌜ r ≡ getD (now (words .entry)) (4 * n) 0 ⌝ }
+{
+    words[WIDTH * n]
 }
 
 // What is known of a node.

@@ -1,10 +1,11 @@
 -- `inputs::locate` meets its contract.
-use mathlib.Core.Path.{refl, ap, _∙_}
+use mathlib.Core.Path.{refl, _∙_}
 use Rattle.model.specs.Inputs.{property}
 use Rattle.model.specs.declared.Resolved.{Resolved}
 use Rattle.inputs.proofs.Ports.{wired, few, data-port, single-port}
 use Rattle.inputs.proofs.Chains.{port-code, port-says, source-node, resolve-none, resolve-many}
-use Rattle.inputs.proofs.Locations.{no-wire, one-wire, fan-in, not-there}
+use Rattle.inputs.proofs.Conditions.{has-input, no-input}
+use Rattle.inputs.proofs.Locations.{same-input, unwired, unresolved}
 use borrow.Author.Needs.{needs}
 use Rattle.inputs.proofs.locate.Statement.{statement}
 use Rattle.inputs.proofs.locate.Tie as tie
@@ -35,27 +36,33 @@ locate-source-requires c κs =
 enum-told-2 : tie.Need-enum-told-2
 enum-told-2 c = search needs
 
+nowhere-requires : tie.Need-nowhere-requires
+nowhere-requires c κs = search needs
+
+nowhere-requires-2 : tie.Need-nowhere-requires-2
+nowhere-requires-2 c κs = search needs
+
 returns : tie.Need-returns
 unfolding property
 returns c =
     let p = c .before .before .before .before .before .before .before .pre in
     let s = rw (c .before .enum-told .given .1) at (port-says (wired (p .0)) _ _ (few (p .0) (p .1)) (p .2) _ (c .before .before .before .feeds-of .ensures)) in
-    no-wire _ _ _ _ (c .before .before .before .before .if1 .taken) (c .locate-property .ensures) (λ words. data-port (p .0) _ _ _ Resolved.Unwired _ (resolve-none _ s) refl)
+    same-input (data-port (p .0) _ _ _ Resolved.Unwired _ (resolve-none _ s) refl ∙ has-input _ (c .before .before .before .before .if1 .taken)) (c .locate-property .ensures _)
 
 returns-2 : tie.Need-returns-2
 returns-2 c =
     let p = c .before .before .before .before .before .before .before .before .pre in
     let s = rw (c .before .before .wire .given .1) at (port-says (wired (p .0)) _ _ (few (p .0) (p .1)) (p .2) _ (c .before .before .before .before .feeds-of .ensures)) in
-    one-wire _ _ _ _ (c .before .before .before .before .before .if1 .taken) _ (source-node (wired (p .0)) _ (s .0)) (c .locate-source .ensures) (λ words. single-port (p .0) _ _ _ (s .1))
+    same-input (single-port (p .0) _ _ _ (s .1) ∙ has-input _ (c .before .before .before .before .before .if1 .taken)) (c .locate-source .ensures _)
 
 returns-3 : tie.Need-returns-3
 returns-3 c =
-    let p = c .before .before .before .before .before .before .pre in
-    let s = rw (c .enum-told2 .given .1) at (port-says (wired (p .0)) _ _ (few (p .0) (p .1)) (p .2) _ (c .before .before .feeds-of .ensures)) in
-    fan-in _ _ _ _ (c .before .before .before .if1 .taken) (λ words. data-port (p .0) _ _ _ Resolved.Unresolved _ (resolve-many _ s) refl)
+    let p = c .before .before .before .before .before .before .before .pre in
+    let s = rw (c .before .enum-told2 .given .1) at (port-says (wired (p .0)) _ _ (few (p .0) (p .1)) (p .2) _ (c .before .before .before .feeds-of .ensures)) in
+    rw (c .nowhere .ensures) (same-input (data-port (p .0) _ _ _ Resolved.Unresolved _ (resolve-many _ s) refl ∙ has-input _ (c .before .before .before .before .if1 .taken)) (unresolved _ _))
 
 returns-4 : tie.Need-returns-4
-returns-4 c = not-there _ _ _ _ (c .if1 .left)
+returns-4 c = rw (c .nowhere2 .ensures) (same-input (no-input _ (c .before .if1 .left)) (unwired _ _))
 
 pub locate-spec : {M : Type 1} → statement M
 locate-spec =
@@ -67,6 +74,8 @@ locate-spec =
     enum-known-wire
     locate-source-requires
     enum-told-2
+    nowhere-requires
+    nowhere-requires-2
     returns
     returns-2
     returns-3

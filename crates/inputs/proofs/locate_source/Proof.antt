@@ -1,15 +1,18 @@
 -- `inputs::locate_source` meets its contract.
-use Prim.Native.Nat.{ℕ, _<_}
-use mathlib.Core.Path.{_≡_, refl, ap, _∙_}
-use mathlib.Core.List.{List}
+use Prim.Native.Nat.{ℕ, _*_}
+use mathlib.Core.Path.{_≡_, refl, sym, ap, subst, _∙_}
+use mathlib.Core.Option.{Option}
 use lib.ListN.{getD}
 use denote.Ref.{now}
 use Rattle.ir.specs.declared.Wire.{Wire}
+use Rattle.value.specs.declared.Value.{Value}
 use Rattle.records.specs.Access.{wiresOf, noWire}
 use Rattle.model.specs.Inputs.{carried}
-use Rattle.state.specs.Held.{knownOf}
-use Rattle.inputs.specs.Inputs.{variantIn}
-use Rattle.inputs.proofs.Conditions.{held-none, held-some}
+use Rattle.model.specs.declared.Resolved.{Resolved}
+use Rattle.state.specs.Held.{knownOf, held}
+use Rattle.inputs.specs.Inputs.{Locates}
+use Rattle.inputs.specs.declared.Located.{Located}
+use Rattle.inputs.proofs.Locations.{unknown-source, at-source}
 use borrow.Author.Needs.{needs}
 use Rattle.inputs.proofs.locate_source.Statement.{statement}
 use Rattle.inputs.proofs.locate_source.Tie as tie
@@ -26,24 +29,30 @@ read-is c = c .wire .ensures ∙ ap (λ (i : ℕ). getD (wiresOf (now (c .before
 source-is : (c : tie.After-wire) → c .wire .result .source .«node_id» ≡ getD (wiresOf (now (c .before .before .before .args .wires))) (c .before .before .before .args .wire) noWire .source .«node_id»
 source-is c = ap (λ (w : Wire). w .source .«node_id») (read-is c)
 
-abbrev variant : List ℕ → List ℕ → ℕ → ℕ
-variant kinds words n = variantIn (carried (knownOf kinds words n))
-
 element-copy-out-kind : tie.Need-element-copy-out-kind
 element-copy-out-kind c = rw (source-is c) (c .before .before .before .pre .1)
 
+-- what is located at the node that was read is located at the wire's source
+at-node : (c : tie.After-wire) (o : Option Value) {l : Located} → Locates (carried (knownOf (now (c .before .before .before .args .kinds)) (now (c .before .before .before .args .words)) (c .wire .result .source .«node_id»))) o (knownOf (now (c .before .before .before .args .kinds)) (now (c .before .before .before .args .words))) l
+    → Locates (carried (knownOf (now (c .before .before .before .args .kinds)) (now (c .before .before .before .args .words)) (getD (wiresOf (now (c .before .before .before .args .wires))) (c .before .before .before .args .wire) noWire .source .«node_id»))) o (knownOf (now (c .before .before .before .args .kinds)) (now (c .before .before .before .args .words))) l
+at-node c o {l} f = rw (← source-is c) f
+
+nowhere-requires : tie.Need-nowhere-requires
+nowhere-requires c κs = search needs
+
 returns : tie.Need-returns
-unfolding knownOf
-returns c =
-    record { wired = refl; source = source-is (c .before .before); variant = λ words. held-none _ _ _ _ _ (c .if1 .taken) ∙ ap (variant (now (c .before .before .before .before .before .args .kinds)) words) (source-is (c .before .before)) }
+returns c o =
+    rw (c .nowhere .ensures) (at-node (c .before .before .before) o (unknown-source _ _ _ (c .before .if1 .taken) o))
 
 variant-of-requires : tie.Need-variant-of-requires
 variant-of-requires c κs = search needs
 
+first-word-requires : tie.Need-first-word-requires
+first-word-requires c κs = rw (source-is (c .before .before .before)) (c .before .before .before .before .before .before .pre .1)
+
 returns-2 : tie.Need-returns-2
-unfolding knownOf
-returns-2 c =
-    record { wired = refl; source = source-is (c .before .before .before); variant = λ words. c .variant-of .ensures ∙ held-some _ _ _ _ _ (c .before .if1 .left) ∙ ap (variant (now (c .before .before .before .before .before .before .args .kinds)) words) (source-is (c .before .before .before)) }
+returns-2 c o =
+    rw (c .before .variant-of .ensures, c .first-word .ensures) (at-node (c .before .before .before .before) o (at-source _ _ _ (rw (source-is (c .before .before .before .before)) (c .before .before .before .before .before .before .before .pre .1)) (c .before .before .if1 .left) o))
 
 pub locate-source-spec : {M : Type 1} → statement M
 locate-source-spec =
@@ -52,6 +61,8 @@ locate-source-spec =
     wide-number-requires
     wire-requires
     element-copy-out-kind
+    nowhere-requires
     returns
     variant-of-requires
+    first-word-requires
     returns-2)

@@ -48,17 +48,17 @@ listed c =
 operand-at-requires : tie.Need-operand-at-requires
 operand-at-requires c κs =
     let p = c .before .before .before .before .before .before .before .pre in
-    (few (p .0) (p .1), omega arith, p .0 .properties, c .before .before .before .before .locate .ensures, listed c .first)
+    (few (p .0) (p .1), omega arith, p .0 .properties, c .before .before .before .before .locate .ensures .within)
 
 operand-at-requires-2 : tie.Need-operand-at-requires-2
 operand-at-requires-2 c κs =
     let p = c .before .before .before .before .before .before .before .before .pre in
-    (few (p .0) (p .1), omega arith, p .0 .properties, c .before .before .before .before .locate2 .ensures, listed (c .before) .second)
+    (few (p .0) (p .1), omega arith, p .0 .properties, c .before .before .before .before .locate2 .ensures .within)
 
 operand-at-requires-3 : tie.Need-operand-at-requires-3
 operand-at-requires-3 c κs =
     let p = c .before .before .before .before .before .before .before .before .before .pre in
-    (few (p .0) (p .1), omega arith, p .0 .properties, c .before .before .before .before .locate3 .ensures, listed (c .before .before) .third)
+    (few (p .0) (p .1), omega arith, p .0 .properties, c .before .before .before .before .locate3 .ensures .within)
 
 evaluate-operands-requires : tie.Need-evaluate-operands-requires
 evaluate-operands-requires c κs = search needs
@@ -66,13 +66,17 @@ evaluate-operands-requires c κs = search needs
 returns : tie.Need-returns
 returns c =
     let p = c .before .before .before .before .before .before .before .before .before .before .before .pre in
+    let a = c .before .before .before .before .before .before .before .before .locate .ensures in
+    let b = c .before .before .before .before .before .before .before .locate2 .ensures in
+    let d = c .before .before .before .before .before .before .locate3 .ensures in
+    let row = listed (c .before .before .before .before) in
     c .evaluate-operands .ensures
-    ∙ is-covered _ _ _ _ _ (covers-inputs _ _ (p .3) _ _ _ (c .before .before .before .before .before .before .before .before .locate .ensures .variant _) (c .before .before .before .before .before .before .before .locate2 .ensures .variant _) (c .before .before .before .before .before .before .locate3 .ensures .variant _) (c .before .before .before .before .before .covers .ensures _ (p .2))) (c .before .before .before .before .if1 .taken) (c .before .before .before .operand-at .ensures) (c .before .before .operand-at2 .ensures) (c .before .operand-at3 .ensures)
+    ∙ is-covered _ _ _ _ _ (covers-inputs _ _ (p .3) _ _ _ (a .variant) (b .variant) (d .variant) (c .before .before .before .before .before .covers .ensures _ (p .2))) (c .before .before .before .before .if1 .taken) (c .before .before .before .operand-at .ensures _ a (row .first)) (c .before .before .operand-at2 .ensures _ b (row .second)) (c .before .operand-at3 .ensures _ d (row .third))
 
 returns-2 : tie.Need-returns-2
 returns-2 c =
     let p = c .before .before .before .before .before .before .before .pre in
-    not-covered _ _ _ _ _ (covers-inputs _ _ (p .3) _ _ _ (c .before .before .before .before .locate .ensures .variant _) (c .before .before .before .locate2 .ensures .variant _) (c .before .before .locate3 .ensures .variant _) (c .before .covers .ensures _ (p .2))) (c .if1 .left)
+    not-covered _ _ _ _ _ (covers-inputs _ _ (p .3) _ _ _ (c .before .before .before .before .locate .ensures .variant) (c .before .before .before .locate2 .ensures .variant) (c .before .before .locate3 .ensures .variant) (c .before .covers .ensures _ (p .2))) (c .if1 .left)
 
 pub evaluate-spec : {M : Type 1} → statement M
 evaluate-spec =
