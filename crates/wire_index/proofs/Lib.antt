@@ -6,4 +6,5 @@ pub mod Slots
 pub mod Relinking
 pub mod Sorting
 pub mod Nodes
+pub mod Placing
 pub mod Rises
