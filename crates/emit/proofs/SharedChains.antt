@@ -2,7 +2,7 @@
 use mathlib.Core.Path.{_≡_, refl, sym, ap, ap₂, _∙_, subst}
 use mathlib.Core.Option.{Option, none, some}
 use mathlib.Core.List.{List, [], _∷_, _++_, append-nil}
-use Prim.Native.Nat.{ℕ, zero, suc, _-_, _≤_, _<_}
+use Prim.Native.Nat.{ℕ, zero, suc, _+_, _-_, _≤_, _<_}
 use native.Mathlib.Omega.{arith}
 use native.Mathlib.Decide.{ℕ-discrete}
 use lib.ListN.{length, getD, set, length-set}
@@ -19,7 +19,7 @@ use Rattle.model.proofs.Maps.{none-some}
 use Rattle.model.proofs.TargetCounts.{both-some, reach-more}
 use Rattle.state.specs.Planned.{shapeAt, shapeOf}
 use Rattle.rewrite.proofs.Linking.{within}
-use Rattle.emit.specs.Emit.{leadsTo, Live, execOf, Expands, Net, Starts, Entered, Shared, Ready}
+use Rattle.emit.specs.Emit.{leadsTo, Live, execOf, Expands, Net, Starts, Entered, Shared, Branches, Ready}
 use Rattle.emit.proofs.Stack.{enter}
 
 -- what is collected stays where each gives what it gave
@@ -116,3 +116,20 @@ shared-one {ws} {actions} {next} {first} S {b} {t} l E =
 -- the chains that `rewrite` leaves start so
 pub starts : {ws : List Wire} {n : ℕ} {actions details sources counts first next : List ℕ} → Ready ws n actions details sources counts first next → Starts ws actions first
 starts {ws} {n} R = record { within = within ws n (R .bounded); long = R .rewritable .live .first-long; inside = λ b a. chain-code (R .rewritable .live .chain b a) }
+
+-- ---- the stack of a row
+
+pub stacked : {stack : List ℕ} {depth b : ℕ} → Branches stack depth → depth < maxNodes → b < maxNodes → Branches (set stack depth b) (depth + 1)
+stacked {stack} {depth} {b} s h few =
+    record {
+      long = length-set stack depth b ∙ s .long;
+      few = omega arith;
+      low = λ k l. at k l (ℕ-discrete k depth);
+    }
+  where
+    at : (k : ℕ) → k < depth + 1 → Dec (k ≡ depth) → getD (set stack depth b) k 0 < maxNodes
+    at k l (yes e) = rw (e, getD-set-same stack depth b 0 (omega (arith, s .long, h))) few
+    at k l (no n) = rw (getD-set-other stack depth k b 0 n) (s .low k (omega (arith, l, n)))
+
+pub unstacked : {stack : List ℕ} {depth m : ℕ} → Branches stack depth → m ≤ depth → Branches stack m
+unstacked s h = record { long = s .long; few = omega (arith, h, s .few); low = λ k l. s .low k (omega (arith, l, h)) }

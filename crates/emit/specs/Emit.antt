@@ -80,6 +80,12 @@ pub record Shared (ws : List Wire) (actions next first first′ : List ℕ) : Ty
   pub starts : Starts ws actions first′
   pub serves : (n : ℕ) (details : List ℕ) → Net ws n actions details first next → Net ws n actions details first′ next
 
+-- as many nodes are stacked as `depth` says
+pub record Branches (stack : List ℕ) (depth : ℕ) : Type 0 where
+  pub long : length stack ≡ maxNodes
+  pub few : depth ≤ maxNodes
+  pub low : (k : ℕ) → k < depth → getD stack k 0 < maxNodes
+
 -- ---- the stack: codes of chains, the next to be walked on top
 
 pub data Stacked (p : Map PlanAction) (n : ℕ) (ws : List Wire) (next stack : List ℕ) : ℕ → List PortRef → Type 0 where

@@ -9,7 +9,7 @@ ghost use mathlib.Core.Path.{_≡_};
 ghost use Prim.Native.Nat.{_<_, _≤_};
 ghost use Rattle.ir.specs.Limits.{maxNodes};
 ghost use Rattle.records.specs.Access.{wiresOf};
-ghost use Rattle.emit.specs.Emit.{Starts, Entered, Shared};
+ghost use Rattle.emit.specs.Emit.{Starts, Entered, Shared, Branches};
 
 // The planned Branch whose chain planned Branch b may take over, as b's only live wire enters it; as many as there may be nodes where there is none.
 fn entered(
@@ -58,28 +58,30 @@ fn share(
     first[b] = first[target];
 }
 
-// One step of Branch b along its row: the Branch ahead takes a step, and b then takes over its chain. How many steps are left: none at the row's end.
-fn share_step(
+// Stacks the Branches of the row from Branch b on, each of which may take over the chain of the one after it; how many there are.
+fn stack_row(
     wires: &[u8],
+    nodes: usize,
     actions: &[u8; limit::NODES],
-    first: &mut [u16; limit::NODES],
+    first: &[u16; limit::NODES],
     next: &[u16; limit::WIRES],
+    stack: &mut [u16; limit::NODES],
     b: usize,
-    left: usize,
 ) -> usize
-    requires { ⌜ Starts (wiresOf (now wires)) (now actions) (now first) × (b < maxNodes) × (0 < left) ⌝ }
-    ensures { λ r. ⌜ Shared (wiresOf (now (wires .entry))) (now (actions .entry)) (now (next .entry)) (now (first .entry)) (now (first .exit)) × (r < left) ⌝ }
+    requires { ⌜ Starts (wiresOf (now wires)) (now actions) (now first) × (nodes ≤ maxNodes) × (b < maxNodes) × Branches (now stack) 0 ⌝ }
+    ensures { λ r. ⌜ Branches (now (stack .exit)) r ⌝ }
 {
-    let target = entered(wires, actions, first, next, b);
-    if target == limit::NODES {
-        return 0;
+    let mut branch = b;
+    let mut depth: usize = 0;
+    while (branch < limit::NODES) & (depth < nodes) {
+        stack[depth] = branch as u16;
+        depth += 1;
+        branch = entered(wires, actions, first, next, branch);
     }
-    share(wires, actions, first, next, target);
-    share(wires, actions, first, next, b);
-    left - 1
+    depth
 }
 
-// Branch b takes over the chain at the end of its row, which has at most `nodes` Branches. One without a count leads into a cycle, and takes none.
+// The Branches of the row from Branch b on take over the chain at its end, the last first. A Branch without a count leads into a cycle, and takes none.
 fn share_row(
     wires: &[u8],
     nodes: usize,
@@ -87,21 +89,23 @@ fn share_row(
     counts: &[u16; limit::NODES],
     first: &mut [u16; limit::NODES],
     next: &[u16; limit::WIRES],
+    stack: &mut [u16; limit::NODES],
     b: usize,
 )
-    requires { ⌜ Starts (wiresOf (now wires)) (now actions) (now first) × (b < maxNodes) ⌝ }
-    ensures { λ _. ⌜ Shared (wiresOf (now (wires .entry))) (now (actions .entry)) (now (next .entry)) (now (first .entry)) (now (first .exit)) ⌝ }
+    requires { ⌜ Starts (wiresOf (now wires)) (now actions) (now first) × (nodes ≤ maxNodes) × (b < maxNodes) × Branches (now stack) 0 ⌝ }
+    ensures { λ _. ⌜ Shared (wiresOf (now (wires .entry))) (now (actions .entry)) (now (next .entry)) (now (first .entry)) (now (first .exit)) × Branches (now (stack .exit)) 0 ⌝ }
 {
     if NO_COUNT <= counts[b] {
         return;
     }
-    let mut left = nodes;
-    while 0 < left {
-        left = share_step(wires, actions, first, next, b, left);
+    let mut depth = stack_row(wires, nodes, actions, &*first, next, stack, b);
+    while 0 < depth {
+        depth -= 1;
+        share(wires, actions, first, next, crate::wide(stack[depth]));
     }
 }
 
-// All Branches, from the last down: a row in number order takes one step each.
+// All Branches, from the last down: a row in number order is one step each.
 pub fn share_chains(
     wires: &[u8],
     nodes: usize,
@@ -116,9 +120,10 @@ pub fn share_chains(
     if !has_action(actions, nodes, TRUNCATE) {
         return;
     }
+    let mut stack = [0u16; limit::NODES];
     let mut b = nodes;
     while 0 < b {
         b = b - 1;
-        share_row(wires, nodes, actions, counts, first, next, b);
+        share_row(wires, nodes, actions, counts, first, next, &mut stack, b);
     }
 }
