@@ -3,3 +3,4 @@ pub mod Fanning
 pub mod Nets
 pub mod SharedChains
 pub mod Writing
+pub mod Copying

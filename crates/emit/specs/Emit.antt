@@ -8,8 +8,10 @@ use Rattle.ir.specs.Limits.{maxNodes, maxWires}
 use Rattle.ir.specs.Ports.{exec}
 use Rattle.ir.specs.declared.PortRef.{PortRef}
 use Rattle.ir.specs.declared.Wire.{Wire}
-use Rattle.records.specs.Access.{noWire, Bounded}
+use Rattle.encoding.specs.Wires.{wireBytes}
+use Rattle.records.specs.Access.{noWire, wiresOf, Bounded}
 use Rattle.wire_index.specs.Chains.{Chain}
+use Rattle.model.specs.Answer.{each}
 use Rattle.model.specs.Maps.{Map, All}
 use Rattle.model.specs.Offer.{PlanAction}
 use Rattle.model.specs.Rewrite.{collect, reach, rewriteWire, rewriteWires}
@@ -189,7 +191,8 @@ pub record EmitsEach (ws : List Wire) (n : ℕ) (actions details sources counts 
   pub prepared : Prepared ws n actions details sources counts first next
   pub room : at + 7 * length (orNil (rewriteWires (shapeOf ws actions details) n ws)) ≤ size
 
--- the same with the chains that `rewrite` left
-pub record EmitsAll (ws : List Wire) (n : ℕ) (actions details sources counts first next : List ℕ) (at size : ℕ) : Type 0 where
-  pub ready : Ready ws n actions details sources counts first next
-  pub room : at + 7 * length (orNil (rewriteWires (shapeOf ws actions details) n ws)) ≤ size
+-- the same with the chains that `rewrite` left; the wire records are the bytes of the wires that they say
+pub record EmitsAll (wires : List ℕ) (n : ℕ) (actions details sources counts first next : List ℕ) (at size : ℕ) : Type 0 where
+  pub records : wires ≡ each wireBytes (wiresOf wires)
+  pub ready : Ready (wiresOf wires) n actions details sources counts first next
+  pub room : at + 7 * length (orNil (rewriteWires (shapeOf (wiresOf wires) actions details) n (wiresOf wires))) ≤ size

@@ -6,6 +6,7 @@ use ir::limit;
 use records::access;
 use rewrite::Origin;
 use rewrite::counts;
+use rewrite::has_plan;
 use rewrite::sources as origins;
 use state::KEPT;
 ghost use mathlib.Core.Path.{_≡_};
@@ -265,7 +266,20 @@ fn write_all(
     past
 }
 
-// Writes the rewritten wires.
+// Copies wire records.
+fn copy_wires(wires: &[u8], out: &mut [u8], at: usize) -> usize
+    requires { ⌜ at + length (now wires) ≤ length (now out) ⌝ }
+    ensures { λ r. ⌜ Written (now (wires .entry)) (now (out .entry)) (now (out .exit)) at r ⌝ }
+{
+    let mut i: usize = 0;
+    while i < wires.len() {
+        out[at + i] = wires[i];
+        i += 1;
+    }
+    at + i
+}
+
+// Writes the rewritten wires. Where nothing is planned, they are those of the input.
 pub fn write_wires(
     wires: &[u8],
     nodes: usize,
@@ -278,9 +292,12 @@ pub fn write_wires(
     out: &mut [u8],
     at: usize,
 ) -> usize
-    requires { ⌜ EmitsAll (wiresOf (now wires)) nodes (now actions) (now details) (now sources) (now counts) (now first) (now next) at (length (now out)) ⌝ }
+    requires { ⌜ EmitsAll (now wires) nodes (now actions) (now details) (now sources) (now counts) (now first) (now next) at (length (now out)) ⌝ }
     ensures { λ r. ⌜ Written (each wireBytes (orNil (rewriteWires (shapeOf (wiresOf (now (wires .entry))) (now (actions .entry)) (now (details .entry))) nodes (wiresOf (now (wires .entry)))))) (now (out .entry)) (now (out .exit)) at r ⌝ }
 {
+    if !has_plan(actions, nodes) {
+        return copy_wires(wires, out, at);
+    }
     let mut chains = *first;
     sharing::share_chains(wires, nodes, actions, counts, &mut chains, next);
     write_all(

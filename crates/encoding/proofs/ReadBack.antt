@@ -1,12 +1,12 @@
--- What was written is read back.
+-- What was written is read back, and what was read of a wire is written again.
 use Prim.Native.Nat.{ℕ, zero, suc, _+_, _/_, _%_, _^_, _≤_, _<_}
 use native.Mathlib.Omega.{arith}
 use native.Mathlib.Nat.{add-zero, pow-suc}
 use mathlib.Core.Path.{_≡_, refl, sym, ap, _∙_}
 use mathlib.Core.Bool.{true, false}
 use mathlib.Core.List.{List, [], _∷_, _++_}
-use lib.ListN.{length, getD, length-append, List·getD-append}
-use lib.Seq.{getD-append-add}
+use lib.ListN.{length, getD, take, drop, length-append, List·getD-append}
+use lib.Seq.{drop-cons, getD-append-add}
 use lib.Dec.{T}
 use lib.Ieee.{Float as IeeeFloat, fits, ofBits, binary64}
 use mir.Val.{SFits, ofZ}
@@ -150,3 +150,30 @@ wire-back w l at a b room =
       number-back 2 (w .target .«node_id») s (at + 4) b (left (bytesOf 2 (w .target .«node_id»)) (w .target .port ∷ []) s (at + 4) target),
       byte-back (w .target .port) s (at + 6) (right (bytesOf 2 (w .target .«node_id»)) (w .target .port ∷ []) s (at + 4) target (at + 6) (omega (arith, bytes-length 2 (w .target .«node_id»)))),
     )
+
+-- ---- what was read is written again
+
+number-again : (s : List ℕ) (i : ℕ) → ((k : ℕ) → byte s k < 256) → (byte s i ≡ u16At s i % 256) × (byte s (i + 1) ≡ u16At s i / 256 % 256)
+unfolding numberAt
+number-again s i small = (omega (arith, small i, small (i + 1)), omega (arith, small i, small (i + 1)))
+
+-- THE LAW: a wire's record is the bytes of the wire that it says
+pub wire-again : (s : List ℕ) (at : ℕ) → ((k : ℕ) → byte s k < 256) → byte s at ≡ 2 → at + 7 ≤ length s → take 7 (drop at s) ≡ wireBytes (wireAt s at)
+unfolding bytesOf
+wire-again s at small kind room =
+    let b1 : byte s (suc at) ≡ u16At s (at + 1) % 256 = ap (byte s) (omega arith) ∙ number-again s (at + 1) small .0 in
+    let b2 : byte s (suc (suc at)) ≡ u16At s (at + 1) / 256 % 256 = ap (byte s) (omega arith) ∙ number-again s (at + 1) small .1 in
+    let b3 : byte s (suc (suc (suc at))) ≡ byte s (at + 3) = ap (byte s) (omega arith) in
+    let b4 : byte s (suc (suc (suc (suc at)))) ≡ u16At s (at + 4) % 256 = ap (byte s) (omega arith) ∙ number-again s (at + 4) small .0 in
+    let b5 : byte s (suc (suc (suc (suc (suc at))))) ≡ u16At s (at + 4) / 256 % 256 = ap (byte s) (omega arith) ∙ number-again s (at + 4) small .1 in
+    let b6 : byte s (suc (suc (suc (suc (suc (suc at)))))) ≡ byte s (at + 6) = ap (byte s) (omega arith) in
+    rw (
+      drop-cons s at 0 (omega arith),
+      drop-cons s (suc at) 0 (omega arith),
+      drop-cons s (suc (suc at)) 0 (omega arith),
+      drop-cons s (suc (suc (suc at))) 0 (omega arith),
+      drop-cons s (suc (suc (suc (suc at)))) 0 (omega arith),
+      drop-cons s (suc (suc (suc (suc (suc at))))) 0 (omega arith),
+      drop-cons s (suc (suc (suc (suc (suc (suc at)))))) 0 (omega arith),
+    )
+    cc

@@ -3,22 +3,22 @@ use mathlib.Core.Path.{_≡_, refl, sym, ap, ap₂, _∙_, subst, subst₂}
 use mathlib.Core.Bool.{Bool, true, false, cond, false≢true}
 use mathlib.Core.Option.{Option, none, some}
 use mathlib.Core.List.{List, [], _∷_, _++_, append-assoc}
-use Prim.Native.Nat.{ℕ, zero, suc, _+_, _*_, _<_, _≤_, min}
+use Prim.Native.Nat.{ℕ, zero, suc, _+_, _-_, _*_, _<_, _≤_, min}
 use native.Mathlib.Omega.{arith}
 use lib.ListN.{length, getD, take, drop, length-append}
 use Rattle.ir.specs.Limits.{maxNodes, maxWires}
 use Rattle.ir.specs.declared.Wire.{Wire}
-use Rattle.encoding.specs.Numbers.{splice, Written}
+use Rattle.encoding.specs.Numbers.{byte, splice, Written}
 use Rattle.encoding.specs.Wires.{wireBytes}
 use Rattle.encoding.proofs.Splices.{written-length, written-more}
 use Rattle.graph.specs.Graph.{Graph, countsOf}
 use Rattle.graph.specs.Decode.{Verdict, accepted, refused, decode, graphOf}
 use Rattle.graph.specs.Refusals.{counts, refusal, reported}
 use Rattle.graph.specs.declared.Counts.{Counts}
-use Rattle.records.specs.Access.{Accepts, Bounded}
+use Rattle.records.specs.Access.{wiresOf, Accepts, Bounded, wiresOffset, propertiesOffset}
 use Rattle.graph.specs.declared.Row.{Row}
 use Rattle.table.specs.Table.{Cells}
-use Rattle.records.proofs.Laid.{counted, bounded, few-nodes}
+use Rattle.records.proofs.Laid.{counted, bounded, few-nodes, wires-part}
 use Rattle.resolve.specs.Reads.{Reads}
 use Rattle.model.specs.Maps.{Map, isSome}
 use Rattle.model.specs.Inputs.{size}
@@ -31,6 +31,7 @@ use Rattle.model.specs.TargetCounts.{cap}
 use Rattle.model.specs.Outcome.{endlessIndex, wireOffset, Result, folds, refuses, Numbers, numbersOf, written, outcome}
 use Rattle.model.specs.Demands.{foldOf}
 use Rattle.model.proofs.Refusals.{at-refusal}
+use Rattle.model.proofs.WireBytes.{section-bytes}
 use Rattle.state.specs.Planned.{shapeOf, Shaped}
 use Rattle.rewrite.specs.Rewritable.{Rewritable}
 use Rattle.rewrite.specs.Tallied.{Stuck, Counted}
@@ -177,6 +178,17 @@ index-low p n (w ∷ ws) = go (isSome (rewriteWire p n w)) (index-low p n ws)
 pub bounded-at : (input : List ℕ) (c : Counts) {vs : List Wire} → Accepts input c → vs ≡ graphOf input .wires → Bounded vs (c .nodes)
 unfolding size
 bounded-at input c a f = subst₂ (λ (m : ℕ) (us : List Wire). Bounded us m) (sym (nodes-are input c a)) (sym f) (bounded input)
+
+-- the part of the input where the wire records stand
+pub section-at : (input : List ℕ) (c : Counts) {from to : ℕ} → from ≡ wiresOffset c → to ≡ propertiesOffset c → take (to - from) (drop from input) ≡ take (7 * c .wires) (drop (wiresOffset c) input)
+section-at input c {from} {to} e f = let n : to - from ≡ 7 * c .wires = omega arith in rw (n, e) refl
+
+module _ (input : List ℕ) (c : Counts) {r : List ℕ} (a : Accepts input c) (e : r ≡ take (7 * c .wires) (drop (wiresOffset c) input)) where
+  pub section-wires : wiresOf r ≡ graphOf input .wires
+  section-wires = ap wiresOf e ∙ wires-part input c a
+
+  pub section-records : ((k : ℕ) → byte input k < 256) → r ≡ each wireBytes (wiresOf r)
+  section-records small = e ∙ (section-bytes input c a small ∙ ap (each wireBytes) (sym section-wires))
 
 pub reads-at : {input : List ℕ} {c : Counts} {table wires feedsFirst feedsNext first next : List ℕ} {rs : List Row} {rows : List Bool} → Indexes input c table wires feedsFirst feedsNext first next → rs ≡ graphOf input .rows → Cells rs rows → Reads (graphOf input) c input table wires rows feedsFirst feedsNext
 unfolding size

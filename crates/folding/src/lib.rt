@@ -68,7 +68,9 @@ fn write_answer(
             place: 0,
         };
     }
-    let wires = access::wires(input, counts);
+    let from = access::wires_offset(input, counts);
+    let to = access::properties_offset(input, counts);
+    let wires = &input[from..to];
     let fates = answer::write_known_records(kinds, words, nodes, out, 0);
     let past = answer::write_fates(kinds, words, actions, nodes, out, fates);
     let length = emit::write_wires(

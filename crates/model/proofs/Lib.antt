@@ -15,3 +15,4 @@ pub mod Demand3
 pub mod TargetCounts
 pub mod Arrays
 pub mod Examples
+pub mod WireBytes

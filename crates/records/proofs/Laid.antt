@@ -11,7 +11,8 @@ use Rattle.ir.specs.declared.Wire.{Wire}
 use Rattle.ir.specs.declared.Role.{Role}
 use Rattle.ir.specs.declared.Role.the-variants.{Unlisted as NoRole, Node as NodeRole, Wire as WireRole, Property as PropertyRole, Row as RowRole, Annihilator as AnnihilatorRole}
 use Rattle.encoding.specs.Numbers.{byte, u16At}
-use Rattle.encoding.specs.Wires.{wireAt}
+use Rattle.encoding.specs.Wires.{wireAt, wireBytes}
+use Rattle.encoding.proofs.ReadBack.{wire-again}
 use Rattle.graph.specs.Graph.{Graph, empty, nodeAt, rowAt, annihilatorAt, add, snoc, countsOf}
 use Rattle.graph.specs.Layout.{roleAt, sizeAt}
 use Rattle.graph.specs.Questions.{isKind, isWirePort, isListed, hasNodes}
@@ -28,6 +29,7 @@ use Rattle.records.proofs.Runs.{snoc-at, wires-run, rows-run}
 pub record Laid (s : List ℕ) (last : ℕ) (g : Graph) (at : ℕ) : Type 0 where
   pub nodes : (i : ℕ) → i < length (g .nodes) → getD (g .nodes) i noNode ≡ nodeAt s (3 * i)
   pub wires : (j : ℕ) → j < length (g .wires) → getD (g .wires) j noWire ≡ wireAt s (3 * length (g .nodes) + 7 * j)
+  pub wire-kinds : (j : ℕ) → j < length (g .wires) → byte s (3 * length (g .nodes) + 7 * j) ≡ 2
   pub named : (j : ℕ) → j < length (g .wires) → Named (length (g .nodes)) (getD (g .wires) j noWire)
   pub few-nodes : length (g .nodes) ≤ 1024
   pub few-wires : length (g .wires) ≤ 4096
@@ -52,6 +54,7 @@ module _ (s : List ℕ) (last : ℕ) (g : Graph) (at : ℕ) (p : Passed last g s
       record {
         nodes = snoc-at (g .nodes) (nodeAt s at) noNode (λ i x. x ≡ nodeAt s (3 * i)) (l .nodes) (ap (nodeAt s) (omega arith));
         wires = λ j i. absurd (omega arith);
+        wire-kinds = λ j i. absurd (omega arith);
         named = λ j i. absurd (omega arith);
         few-nodes = omega (arith, ltb-true (length (g .nodes)) 1024 (rw e at (p .fits)));
         few-wires = l .few-wires;
@@ -85,6 +88,7 @@ module _ (s : List ℕ) (last : ℕ) (g : Graph) (at : ℕ) (p : Passed last g s
       record {
         nodes = l .nodes;
         wires = snoc-at (g .wires) (wireAt s at) noWire (λ j x. x ≡ wireAt s (3 * length (g .nodes) + 7 * j)) (l .wires) (ap (wireAt s) h);
+        wire-kinds = snoc-at (g .wires) (wireAt s at) noWire (λ j x. byte s (3 * length (g .nodes) + 7 * j) ≡ 2) (l .wire-kinds) (ap (byte s) (sym h) ∙ k .same);
         named = snoc-at (g .wires) (wireAt s at) noWire (λ j x. Named (length (g .nodes)) x) (l .named) named;
         few-nodes = l .few-nodes;
         few-wires = omega (arith, ltb-true (length (g .wires)) 4096 (rw e at (p .fits)));
@@ -106,6 +110,7 @@ module _ (s : List ℕ) (last : ℕ) (g : Graph) (at : ℕ) (p : Passed last g s
       record {
         nodes = l .nodes;
         wires = l .wires;
+        wire-kinds = l .wire-kinds;
         named = l .named;
         few-nodes = l .few-nodes;
         few-wires = l .few-wires;
@@ -127,6 +132,7 @@ module _ (s : List ℕ) (last : ℕ) (g : Graph) (at : ℕ) (p : Passed last g s
       record {
         nodes = l .nodes;
         wires = l .wires;
+        wire-kinds = l .wire-kinds;
         named = l .named;
         few-nodes = l .few-nodes;
         few-wires = l .few-wires;
@@ -146,6 +152,7 @@ module _ (s : List ℕ) (last : ℕ) (g : Graph) (at : ℕ) (p : Passed last g s
       record {
         nodes = l .nodes;
         wires = l .wires;
+        wire-kinds = l .wire-kinds;
         named = l .named;
         few-nodes = l .few-nodes;
         few-wires = l .few-wires;
@@ -175,6 +182,7 @@ start s =
     record {
       nodes = λ i h. absurd (omega arith);
       wires = λ i h. absurd (omega arith);
+      wire-kinds = λ i h. absurd (omega arith);
       named = λ i h. absurd (omega arith);
       few-nodes = omega arith;
       few-wires = omega arith;
@@ -236,6 +244,12 @@ module _ (s : List ℕ) where
   -- a wire's record stands at its offset
   pub wire-says : (j : ℕ) → j < length (graphOf s .wires) → wireAt s (3 * length (graphOf s .nodes) + 7 * j) ≡ getD (graphOf s .wires) j noWire
   wire-says j h = sym (final s .laid .wires j h)
+
+  -- and is the bytes of the wire
+  pub wire-bytes : ((k : ℕ) → byte s k < 256) → (j : ℕ) → j < length (graphOf s .wires) → take 7 (drop (3 * length (graphOf s .nodes) + 7 * j) s) ≡ wireBytes (getD (graphOf s .wires) j noWire)
+  wire-bytes small j h =
+      let f = final s in
+      wire-again s _ small (f .laid .wire-kinds j h) (omega (arith, f .inside, f .laid .low, f .laid .total)) ∙ ap wireBytes (wire-says j h)
 
   pub few-nodes : length (graphOf s .nodes) ≤ 1024
   few-nodes = final s .laid .few-nodes

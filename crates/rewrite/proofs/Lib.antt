@@ -12,3 +12,4 @@ pub mod Counting
 pub mod Visits
 pub mod Tallying
 pub mod KeptTargets
+pub mod Unplanned

@@ -4,6 +4,7 @@ use crate::Origin;
 use crate::Rewriting;
 use crate::counts;
 use crate::has_action;
+use crate::has_plan;
 use crate::sources as origins;
 use crate::wide;
 use encoding::wires as wire_records;
@@ -126,7 +127,7 @@ fn count_kept(wires: &[u8], actions: &[u8; limit::NODES]) -> usize
     count
 }
 
-// Wires are weighed only where a Select or a Branch is planned: else each stays, or goes with its target.
+// Where nothing is planned every wire stays. Wires are weighed only where a Select or a Branch is planned: else each stays, or goes with its target.
 pub fn scan(
     wires: &[u8],
     nodes: usize,
@@ -137,6 +138,11 @@ pub fn scan(
     requires { ⌜ Scannable (wiresOf (now wires)) (now actions) (now sources) (now counts) × (nodes ≤ maxNodes) ⌝ }
     ensures { λ r. ⌜ ((details : List ℕ) → Filled (wiresOf (now (wires .entry))) nodes (now (actions .entry)) details (now (sources .entry)) (now (counts .entry)) → Tallied (shapeOf (wiresOf (now (wires .entry))) (now (actions .entry)) details) nodes (wiresOf (now (wires .entry))) r) ⌝ }
 {
+    if !has_plan(actions, nodes) {
+        return Rewriting::Wires {
+            count: wires.len() / wire_records::SIZE,
+        };
+    }
     if has_action(actions, nodes, SHORT_CIRCUIT) {
         return weigh_all(wires, actions, sources, counts);
     }
