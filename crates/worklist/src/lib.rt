@@ -121,7 +121,7 @@ pub fn run(
         ) else {
             return Worked::NoPlace;
         };
-        queue = queue.counted(waiting);
+        queue = queue.longer(waiting);
         pops += 1;
     }
     Worked::Pops(pops)

@@ -39,8 +39,8 @@ impl Queue {
         self
     }
 
-    // The queue with so many waiting, which the caller has stored.
-    pub fn counted(mut self, count: usize) -> Self
+    // The queue once nodes have joined it: so many wait, and the caller has stored them.
+    pub fn longer(mut self, count: usize) -> Self
         ensures { λ r. ⌜ r ≡ record { places = self .places; head = self .head; count = count } ⌝ }
     {
         self.count = count;
@@ -95,5 +95,5 @@ pub fn start(marks: &mut [bool; limit::NODES], nodes: usize) -> Queue
 {
     let mut queue = Queue::new();
     fill(marks, &mut queue.places, nodes);
-    queue.counted(nodes)
+    queue.longer(nodes)
 }

@@ -56,8 +56,8 @@ returns c =
     let b = l .before .before .before .before .before .before .before .before .before .before .before .pre .0 .bounded in
     at-none (l .before .loop .inv) b (l .loop-test .taken) (f .front .ensures) (r .rest .ensures) (t .turn .ensures) (c .enum-told .given .1)
 
-counted-requires : tie.Need-counted-requires Inv-loop μ-loop
-counted-requires c κs = search needs
+longer-requires : tie.Need-longer-requires Inv-loop μ-loop
+longer-requires c κs = search needs
 
 add-pops : tie.Need-add-pops Inv-loop μ-loop
 add-pops c =
@@ -77,7 +77,7 @@ loop-again c =
     let f = r .before in
     let l = f .before .before .before in
     let b = l .before .before .before .before .before .before .before .before .before .before .before .pre .0 .bounded in
-    at-next (l .before .loop .inv) b (l .loop-test .taken) (f .front .ensures) (r .rest .ensures) (t .turn .ensures) (c .before .before .waiting .given .1) (c .counted .ensures)
+    at-next (l .before .loop .inv) b (l .loop-test .taken) (f .front .ensures) (r .rest .ensures) (t .turn .ensures) (c .before .before .waiting .given .1) (c .longer .ensures)
 
 returns-2 : tie.Need-returns-2 Inv-loop μ-loop
 returns-2 c = at-end (c .before .loop .inv) (c .before .before .before .before .before .before .before .before .before .before .before .pre .0 .bounded) (omega (arith, c .loop-test .left))
@@ -97,7 +97,7 @@ run-spec =
     enum-known-waiting
     enum-told
     returns
-    counted-requires
+    longer-requires
     add-pops
     loop-less
     loop-again

@@ -10,12 +10,12 @@ new-requires c κs = search needs
 fill-requires : tie.Need-fill-requires
 fill-requires c κs = search needs
 
-counted-requires : tie.Need-counted-requires
-counted-requires c κs = search needs
+longer-requires : tie.Need-longer-requires
+longer-requires c κs = search needs
 
 returns : tie.Need-returns
 returns c =
-    filled (c .before .before .before .before .before .pre .1) (c .before .before .before .before .new .ensures) (c .before .fill .ensures) (c .counted .ensures)
+    filled (c .before .before .before .before .before .pre .1) (c .before .before .before .before .new .ensures) (c .before .fill .ensures) (c .longer .ensures)
 
 pub start-spec : {M : Type 1} → statement M
-start-spec = tie.close (tie.spec new-requires fill-requires counted-requires returns)
+start-spec = tie.close (tie.spec new-requires fill-requires longer-requires returns)
