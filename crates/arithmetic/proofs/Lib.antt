@@ -1,1 +1,2 @@
 mod Vectors
+pub mod Whole

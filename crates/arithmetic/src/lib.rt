@@ -201,3 +201,10 @@ pub fn math(op: MathOp, a: Operand, b: Operand) -> OptionValue
     }
     numbers_math(op, conversions::math_in(a), conversions::math_in(b))
 }
+
+// .. of two whole numbers.
+pub fn whole_math(op: MathOp, a: i64, b: i64) -> OptionValue
+    ensures { λ r. ⌜ r ≡ numbersMath op (MathIn.I a) (MathIn.I b) ⌝ }
+{
+    conversions::given_int(whole_op(op, a, b))
+}

@@ -1,7 +1,7 @@
 -- Where an input is found, and the word that holds it where it is a scalar.
 use Prim.Native.Nat.{ℕ, _+_, _*_, _-_, _≤_, _<_}
 use native.Mathlib.Omega.{arith}
-use mathlib.Core.Path.{_≡_, refl, sym, subst, _∙_}
+use mathlib.Core.Path.{_≡_, refl, sym, ap, subst, _∙_}
 use mathlib.Core.Bool.{Bool, true, false, cond, _&&_, false≢true}
 use mathlib.Core.Option.{Option, none, some}
 use mathlib.Core.List.{List}
@@ -10,8 +10,11 @@ use lib.Dec.{eqb, leb}
 use lib.ListN.{getD}
 use borrow.Author.Tests.{eqb-true, eqb-false, leb-true, ne-eqb}
 use Rattle.ir.specs.Limits.{maxNodes}
+use Rattle.whole.specs.Bits.{fromBits}
 use Rattle.value.specs.declared.Value.{Value}
 use Rattle.value.specs.declared.Operand.{Operand}
+use Rattle.conversions.specs.Conversions.{mathInOf}
+use Rattle.conversions.specs.declared.MathIn.{MathIn}
 use Rattle.encoding.specs.Values.{valueAt}
 use Rattle.graph.specs.declared.Row.{Row}
 use Rattle.graph.proofs.Roles.{and-left}
@@ -40,6 +43,14 @@ beyond k n3 n4 n5 = go (leb 3 k && leb k 8) refl
 
     go : (b : Bool) → (leb 3 k && leb k 8) ≡ b → cond b (k - 2) 7 ≤ 3 → ⊥
     go true e h = omega (arith, h, past 5 (past 4 (past 3 (leb-true 3 k (and-left (leb 3 k) (leb k 8) e)) n3) n4) n5)
+    go false e h = omega (arith, h)
+
+-- no kind is that of an input with no value
+has-kind : (k : ℕ) → kindVariant k ≡ 0 → ⊥
+has-kind k = go (leb 3 k && leb k 8) refl
+  where
+    go : (b : Bool) → (leb 3 k && leb k 8) ≡ b → cond b (k - 2) 7 ≡ 0 → ⊥
+    go true e h = omega (arith, h, leb-true 3 k (and-left (leb 3 k) (leb k 8) e))
     go false e h = omega (arith, h)
 
 -- a value by its kind, where word w holds the scalars
@@ -77,13 +88,14 @@ same-input {o = o} {known = known} {l = l} e f = subst (λ (i : Resolved). Locat
 
 module _ (o : Option Value) (known : Map Value) where
   pub unwired : Locates Resolved.Unwired o known (record { variant = 0; word = 0; wired = false; source = 0 })
-  unwired = record { variant = refl; scalar = λ h. refl; within = λ w. absurd (false≢true w); by-wire = λ w. absurd (false≢true w); by-property = λ w h. absurd (omega (arith, h)) }
+  unwired = record { variant = refl; scalar = λ h. refl; zero = λ h. refl; within = λ w. absurd (false≢true w); by-wire = λ w. absurd (false≢true w); by-property = λ w h. absurd (omega (arith, h)) }
 
   pub unresolved : Locates Resolved.Unresolved o known (record { variant = 8; word = 0; wired = false; source = 0 })
   unresolved =
       record {
         variant = refl;
         scalar = λ h. absurd (omega (arith, h));
+        zero = λ h. refl;
         within = λ w. absurd (false≢true w);
         by-wire = λ w. absurd (false≢true w);
         by-property = λ w h few. absurd (omega (arith, few));
@@ -93,12 +105,23 @@ module _ (o : Option Value) (known : Map Value) where
 pub unwired-operand : {i : Resolved} {o : Option Value} {known : Map Value} {l : Located} → Locates i o known l → l .variant ≡ 0 → operandOf i ≡ Operand.Unwired
 unwired-operand {l = l} f e = f .scalar (omega (arith, e)) ∙ rw e refl
 
+-- an input that is Unwired or an Int, as Add to Modulo read it
+pub whole-operand : {i : Resolved} {o : Option Value} {known : Map Value} {l : Located} → Locates i o known l → l .variant ≤ 1 → mathInOf (operandOf i) ≡ MathIn.I (fromBits (l .word))
+whole-operand {l = l} f h = ap mathInOf (f .scalar (omega (arith, h))) ∙ go (eqb (l .variant) 0) refl
+  where
+    go : (b : Bool) → eqb (l .variant) 0 ≡ b → mathInOf (scalarOperand (l .variant) (l .word)) ≡ MathIn.I (fromBits (l .word))
+    go true e = rw (eqb-true (l .variant) 0 e, f .zero (eqb-true (l .variant) 0 e)) refl
+    go false e =
+        let one : l .variant ≡ 1 = omega (arith, h, eqb-false (l .variant) 0 e) in
+        rw one refl
+
 pub at-property : (k : ℕ) (s : List ℕ) (i : ℕ) (known : Map Value)
     → Locates (Resolved.Known (valueAt k s i)) (some (valueAt k s i)) known (record { variant = kindVariant k; word = wordAt k s i; wired = false; source = 0 })
 at-property k s i known =
     record {
       variant = sym (value-at k s i);
       scalar = word-at k s i;
+      zero = λ h. absurd (has-kind k h);
       within = λ w. absurd (false≢true w);
       by-wire = λ w. absurd (false≢true w);
       by-property = λ w h few. refl;
@@ -115,6 +138,7 @@ at-source kinds words m few e o =
     record {
       variant = held-some _ _ _ _ _ e;
       scalar = λ h. rw (ne-eqb (getD kinds m 0) 0 e) (held-word _ _ _ _ _ h);
+      zero = λ h. absurd (has-kind (getD kinds m 0) h);
       within = λ w. few;
       by-wire = λ w. refl;
       by-property = λ w. absurd (false≢true (sym w));

@@ -100,6 +100,8 @@ scalarOperand variant word =
 pub record Locates (i : Resolved) (property : Option Value) (known : Map Value) (l : Located) : Type 0 where
   pub variant : l .variant ≡ variantIn i
   pub scalar : l .variant ≤ 3 → operandOf i ≡ scalarOperand (l .variant) (l .word)
+  -- of an input with no value the word is 0, as which Add to Modulo read it
+  pub zero : l .variant ≡ 0 → l .word ≡ 0
   pub within : l .wired ≡ true → l .source < maxNodes
   pub by-wire : l .wired ≡ true → operandOf i ≡ operandOf (carried (known (l .source)))
   pub by-property : l .wired ≡ false → 0 < l .variant → l .variant ≤ 7 → operandOf i ≡ operandOf (carried property)

@@ -1,11 +1,12 @@
 -- The value of a gate, as the model has it.
-use Prim.Native.Nat.{ℕ, _<_}
+use Prim.Native.Nat.{ℕ, _≤_, _<_}
 use mathlib.Core.Path.{_≡_, refl, sym, ap, _∙_, subst}
 use mathlib.Core.Bool.{Bool, true, false, cond, _&&_, _||_}
 use mathlib.Core.Option.{Option, none, some}
 use mathlib.Core.List.{List, [], _∷_, map}
-use lib.Dec.{eqb, ltb}
-use borrow.Author.Tests.{eqb-true}
+use lib.Dec.{eqb, ltb, leb}
+use lib.IntN.{ℤ}
+use borrow.Author.Tests.{eqb-true, leb-true}
 use types.Run.{OneOf, miss}
 use denote.Enum.Declared.{tagOf}
 use Rattle.ir.specs.Classes.{inputCount, inputPorts}
@@ -13,9 +14,13 @@ use Rattle.ir.specs.declared.Folding.{Folding}
 use Rattle.value.specs.declared.Value.{Value}
 use Rattle.value.specs.declared.Operand.{Operand}
 use Rattle.value.specs.declared.OptionValue.{OptionValue}
+use Rattle.conversions.specs.Conversions.{mathInOf}
+use Rattle.conversions.specs.declared.MathIn.{MathIn}
 use Rattle.semantics.specs.Eval.{evalOf}
 use Rattle.semantics.specs.Finite.{nonFiniteFloat}
+use Rattle.semantics.specs.Whole.{WholeMath}
 use Rattle.graph.specs.Graph.{Graph, member}
+use Rattle.graph.proofs.Roles.{and-left, and-right}
 use Rattle.table.specs.Table.{covers as tableCovers, hasCell, annihilatorOf}
 use Rattle.table.specs.declared.AnnihilatorKind.{AnnihilatorKind}
 use Rattle.table.specs.declared.OptionAnnihilator.{OptionAnnihilator}
@@ -43,6 +48,11 @@ module _ {o p : OptionValue} (value : o ≡ p) where
     pub gives-value : f ≡ false → some v ≡ plannable p
     gives-value k = rw (← value, h, ← finite, k)
 
+-- what is no non-finite Float is planned
+planned : (r : OptionValue) → ((v : Value) → r ≡ OptionValue.Some v → nonFiniteFloat v ≡ false) → optional r ≡ plannable r
+planned OptionValue.None h = refl
+planned (OptionValue.Some v) h = rw (h v refl)
+
 -- "no input Unresolved and the row in the table"
 abbrev covered : Graph → ℕ → List Resolved → Bool
 covered g class is = allResolved is && covers g class (map operandOf is)
@@ -55,6 +65,30 @@ module _ (g : Graph) (class : ℕ) (a b c : Resolved) {t : Bool} (e : t ≡ cove
   pub is-covered : t ≡ true → {x y z : Operand} → x ≡ operandOf a → y ≡ operandOf b → z ≡ operandOf c → plannable (evalOf class x y z) ≡ evaluated g class (a ∷ b ∷ c ∷ [])
   unfolding evaluated
   is-covered h p q r = rw (← e, h, p, q, r)
+
+  -- a and b are read as whole numbers
+  pub is-whole : t ≡ true → {m n : ℤ} {r : OptionValue} → WholeMath class m n r → mathInOf (operandOf a) ≡ MathIn.I m → mathInOf (operandOf b) ≡ MathIn.I n → optional r ≡ evaluated g class (a ∷ b ∷ c ∷ [])
+  is-whole h {r = r} w p q = planned r (w .finite) ∙ ap plannable (w .value (operandOf a) (operandOf b) (operandOf c) p q) ∙ is-covered h refl refl refl
+
+-- ---- whole numbers
+
+-- a class of Add to Modulo, and variants that these read as whole numbers
+pub record WholeRow (class x y : ℕ) : Type 0 where
+  pub from : 18 ≤ class
+  pub to : class ≤ 22
+  pub first : x ≤ 1
+  pub second : y ≤ 1
+
+pub whole-row : (class x y : ℕ) → (((leb 18 class && leb class 22) && leb x 1) && leb y 1) ≡ true → WholeRow class x y
+whole-row class x y e =
+    let abc = and-left ((leb 18 class && leb class 22) && leb x 1) (leb y 1) e in
+    let ab = and-left (leb 18 class && leb class 22) (leb x 1) abc in
+    record {
+      from = leb-true 18 class (and-left (leb 18 class) (leb class 22) ab);
+      to = leb-true class 22 (and-right (leb 18 class) (leb class 22) ab);
+      first = leb-true x 1 (and-right (leb 18 class && leb class 22) (leb x 1) abc);
+      second = leb-true y 1 (and-right ((leb 18 class && leb class 22) && leb x 1) (leb y 1) e);
+    }
 
 -- ---- inputs
 

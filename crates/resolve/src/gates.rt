@@ -1,8 +1,10 @@
 // Gates. One of fewer than three inputs has Unwired in place of the others.
 use graph::Counts;
 use graph::SLOTS;
+use ir::class;
 use ir::limit;
 use ir::port;
+use ir::variant;
 use model::Resolved;
 use state::Trial;
 use state::WORDS;
@@ -148,6 +150,14 @@ fn evaluate(
         port::THIRD_INPUT,
     );
     if table::covers(rows, class, a.variant, b.variant, c.variant) {
+        // Add to Modulo of whole numbers. An input with no value is the whole number 0, and so is its word.
+        if (class::MATH_ADD <= class)
+            & (class <= class::MATH_MODULO)
+            & (a.variant <= variant::INT)
+            & (b.variant <= variant::INT)
+        {
+            return semantics::whole_math(class, whole::from_bits(a.word), whole::from_bits(b.word));
+        }
         let x = inputs::operand_at(a, input, table, kinds, words, n, port::INPUT_A);
         let y = inputs::operand_at(b, input, table, kinds, words, n, port::INPUT_B);
         let z = inputs::operand_at(c, input, table, kinds, words, n, port::THIRD_INPUT);

@@ -1,3 +1,4 @@
 pub mod Eval
 pub mod Starred
 pub mod Finite
+pub mod Whole

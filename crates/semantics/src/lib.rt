@@ -2,6 +2,7 @@
 ghost use mathlib.Core.Path.{_≡_};
 ghost use Prim.Native.Nat.{_≤_};
 ghost use Rattle.semantics.specs.Eval.{evalOf};
+ghost use Rattle.semantics.specs.Whole.{WholeMath};
 use arithmetic::MathOp;
 use ir::class;
 use value::Operand;
@@ -135,4 +136,18 @@ pub fn eval_in(class: u8, a: Operand, b: Operand, c: Operand) -> OptionValue
         return shifts(class, a, b, c);
     }
     OptionValue::None
+}
+
+// Add to Modulo of two whole numbers.
+pub fn whole_math(class: u8, a: i64, b: i64) -> OptionValue
+    requires { ⌜ (18 ≤ class) × (class ≤ 22) ⌝ }
+    ensures { λ r. ⌜ WholeMath class a b r ⌝ }
+{
+    match class {
+        class::MATH_ADD => arithmetic::whole_math(MathOp::Add, a, b),
+        class::MATH_SUBTRACT => arithmetic::whole_math(MathOp::Subtract, a, b),
+        class::MATH_MULTIPLY => arithmetic::whole_math(MathOp::Multiply, a, b),
+        class::MATH_DIVIDE => arithmetic::whole_math(MathOp::Divide, a, b),
+        _ => arithmetic::whole_math(MathOp::Modulo, a, b),
+    }
 }
