@@ -20,7 +20,7 @@ use Rattle.model.proofs.Maps.{by-bool}
 use Rattle.model.proofs.Lists.{and-left, and-right, or-false-left, or-false-right}
 use Rattle.state.specs.Planned.{shapeOf, Shaped}
 use Rattle.rewrite.specs.Sources.{passedTo, Sources, Traced}
-use Rattle.rewrite.specs.Jumps.{jumps, jumped, Along, Jumped}
+use Rattle.rewrite.specs.Jumps.{jumps, jumped, turned, Along, Jumped}
 use Rattle.rewrite.proofs.Shapes.{Action, kept, literal, select, branch, action, shape-kept, shape-literal, shape-select, shape-branch, small, planned-low}
 use Rattle.rewrite.proofs.Follow.{Found, drop, start, follow-found, follow-cycles}
 
@@ -82,14 +82,22 @@ module _ (ws : List Wire) (actions sources : List ℕ) (m : ℕ) where
 
 -- ---- rounds
 
-module _ (ws : List Wire) (actions details : List ℕ) where
-  -- a round that has come to node m
-  pub record Round (sources : List ℕ) (far m : ℕ) : Type 0 where
+-- turned twice is the same: each node has its turn
+turned-twice : (n : ℕ) (down : Bool) (m : ℕ) → m < n → (turned n down m < n) × (turned n down (turned n down m) ≡ m)
+turned-twice n true m l = (omega arith, omega arith)
+turned-twice n false m l = (l, refl)
+
+turned-before : (n : ℕ) (down : Bool) (k i m : ℕ) → m ≡ turned n down i → k < i + 1 → (turned n down k ≡ m → ⊥) → k < i
+turned-before n down k i m e l q = let z : k ≡ i → ⊥ = λ p. q (ap (turned n down) p ∙ sym e) in omega arith
+
+module _ (ws : List Wire) (actions details : List ℕ) (n : ℕ) (down : Bool) where
+  -- a round after i nodes
+  pub record Round (sources : List ℕ) (far i : ℕ) : Type 0 where
     pub each : Jumped ws actions details sources far
-    pub before : (x : ℕ) → x < m → getD actions x 0 ≡ 2 → Along ws actions details (2 * far) x (getD sources x 0)
+    pub before : (k : ℕ) → k < i → getD actions (turned n down k) 0 ≡ 2 → Along ws actions details (2 * far) (turned n down k) (getD sources (turned n down k) 0)
 
   pub round-start : (sources : List ℕ) (far : ℕ) → Jumped ws actions details sources far → Round sources far 0
-  round-start sources far j = record { each = j; before = λ x l. absurd (omega arith) }
+  round-start sources far j = record { each = j; before = λ k l. absurd (omega arith) }
 
   -- a Select that has come past the Selects is as far as can be
   along-ended : (far far′ m s : ℕ) → (getD actions (getD ws s noWire .source .«node_id») 0 ≡ 2 → ⊥) → Along ws actions details far m s → Along ws actions details far′ m s
@@ -107,11 +115,11 @@ module _ (ws : List Wire) (actions details : List ℕ) where
         enough = λ e. omega (arith, a .enough h, b .enough e);
       }
 
-  module _ (sources : List ℕ) (far m : ℕ) (t : Traced ws actions sources) (l : m < maxNodes) (r : Round sources far m) where
+  module _ (sources : List ℕ) (far i m : ℕ) (e : m ≡ turned n down i) (t : Traced ws actions sources) (l : m < maxNodes) (r : Round sources far i) where
     self : getD actions m 0 ≡ 2 → Along ws actions details (2 * far) m (getD (jumped ws actions sources m) m 0)
     self h = by-bool (jumps ws actions sources m) (λ e. rw (at-self ws actions sources m t l e) (along-on far m (getD sources m 0) _ (jumps-here ws actions sources m e .1) (r .each m h) (r .each _ (jumps-here ws actions sources m e .1)))) (λ e. rw (jumped-not ws actions sources m e) (along-ended far (2 * far) m (getD sources m 0) (jumps-not ws actions sources m e h) (r .each m h)))
 
-    pub round-next : Round (jumped ws actions sources m) far (m + 1)
+    pub round-next : Round (jumped ws actions sources m) far (i + 1)
     round-next = record { each = each; before = before }
       where
         each : Jumped ws actions details (jumped ws actions sources m) far
@@ -121,54 +129,57 @@ module _ (ws : List Wire) (actions details : List ℕ) where
             go (yes q) = rw q (along-less far (2 * far) m _ (omega arith) (self (rw q at h)))
             go (no q) = rw (at-other ws actions sources m t l x q) (r .each x h)
 
-        before : (x : ℕ) → x < m + 1 → getD actions x 0 ≡ 2 → Along ws actions details (2 * far) x (getD (jumped ws actions sources m) x 0)
-        before x b h = go (ℕ-discrete x m)
+        before : (k : ℕ) → k < i + 1 → getD actions (turned n down k) 0 ≡ 2 → Along ws actions details (2 * far) (turned n down k) (getD (jumped ws actions sources m) (turned n down k) 0)
+        before k b h = go (ℕ-discrete (turned n down k) m)
           where
-            go : Dec (x ≡ m) → Along ws actions details (2 * far) x (getD (jumped ws actions sources m) x 0)
+            go : Dec (turned n down k ≡ m) → Along ws actions details (2 * far) (turned n down k) (getD (jumped ws actions sources m) (turned n down k) 0)
             go (yes q) = rw q (self (rw q at h))
-            go (no q) = rw (at-other ws actions sources m t l x q) (r .before x (omega arith) h)
+            go (no q) = rw (at-other ws actions sources m t l _ q) (r .before k (turned-before n down k i m e b q) h)
 
-  -- all nodes passed: twice as far, or as far as can be where none jumped
-  module _ (n : ℕ) (s : Shaped ws n actions details) (sources : List ℕ) (far : ℕ) where
-    select-low : (m : ℕ) → getD actions m 0 ≡ 2 → m < n
-    select-low m h = planned-low ws actions details n s m (λ e. let z : _≡_ {A = ℕ} 2 0 = sym h ∙ e in omega arith)
-
-    pub round-end : (m : ℕ) → n ≤ m → Round sources far m → Jumped ws actions details sources (2 * far)
-    round-end m l r x h = r .before x (omega (arith, select-low x h)) h
-
-    pub round-still : ((x : ℕ) → x < n → jumps ws actions sources x ≡ false) → Jumped ws actions details sources far → (far′ : ℕ) → Jumped ws actions details sources far′
-    round-still e j far′ x h = along-ended far far′ x _ (jumps-not ws actions sources x (e x (select-low x h)) h) (j x h)
-
--- a round from old sources that has come to node m. Where none has jumped, nothing has changed
-pub record Jumping (ws : List Wire) (actions old sources : List ℕ) (any : Bool) (far m : ℕ) : Type 0 where
+-- a round from old sources after i nodes. Where none has jumped, nothing has changed
+pub record Jumping (ws : List Wire) (actions : List ℕ) (n : ℕ) (down : Bool) (old sources : List ℕ) (any : Bool) (far i : ℕ) : Type 0 where
   pub traced : Traced ws actions sources
-  pub round : (details : List ℕ) → Jumped ws actions details old far → Round ws actions details sources far m
+  pub round : (details : List ℕ) → Jumped ws actions details old far → Round ws actions details n down sources far i
   pub same : any ≡ false → sources ≡ old
-  pub still : any ≡ false → (x : ℕ) → x < m → jumps ws actions sources x ≡ false
+  pub still : any ≡ false → (k : ℕ) → k < i → jumps ws actions sources (turned n down k) ≡ false
 
-pub jumping-start : (ws : List Wire) (actions sources : List ℕ) (far : ℕ) → Traced ws actions sources → Jumping ws actions sources sources false far 0
-jumping-start ws actions sources far t =
-    record { traced = t; round = λ details j. round-start ws actions details sources far j; same = λ e. refl; still = λ e x l. absurd (omega arith) }
+pub jumping-start : (ws : List Wire) (actions : List ℕ) (n : ℕ) (down : Bool) (sources : List ℕ) (far : ℕ) → Traced ws actions sources → Jumping ws actions n down sources sources false far 0
+jumping-start ws actions n down sources far t =
+    record { traced = t; round = λ details j. round-start ws actions details n down sources far j; same = λ e. refl; still = λ e k l. absurd (omega arith) }
 
-module _ (ws : List Wire) (actions old sources : List ℕ) (any : Bool) (far m : ℕ) (l : m < maxNodes) (j : Jumping ws actions old sources any far m) where
+module _ (ws : List Wire) (actions : List ℕ) (n : ℕ) (down : Bool) (old sources : List ℕ) (any : Bool) (far i m : ℕ) (e : m ≡ turned n down i) (l : m < maxNodes) (j : Jumping ws actions n down old sources any far i) where
   unmoved : (any || jumps ws actions sources m) ≡ false → jumped ws actions sources m ≡ sources
-  unmoved e = jumped-not ws actions sources m (or-false-right any _ e)
+  unmoved f = jumped-not ws actions sources m (or-false-right any _ f)
 
-  still-more : (any || jumps ws actions sources m) ≡ false → (x : ℕ) → x < m + 1 → jumps ws actions (jumped ws actions sources m) x ≡ false
-  still-more e x b = rw (unmoved e) (go (ℕ-discrete x m))
+  still-more : (any || jumps ws actions sources m) ≡ false → (k : ℕ) → k < i + 1 → jumps ws actions (jumped ws actions sources m) (turned n down k) ≡ false
+  still-more f k b = rw (unmoved f) (go (ℕ-discrete (turned n down k) m))
     where
-      go : Dec (x ≡ m) → jumps ws actions sources x ≡ false
-      go (yes q) = rw q (or-false-right any _ e)
-      go (no q) = j .still (or-false-left any _ e) x (omega arith)
+      go : Dec (turned n down k ≡ m) → jumps ws actions sources (turned n down k) ≡ false
+      go (yes q) = rw q (or-false-right any _ f)
+      go (no q) = j .still (or-false-left any _ f) k (turned-before n down k i m e b q)
 
-  pub jumping-next : (r : Bool) (new : List ℕ) → r ≡ jumps ws actions sources m → new ≡ jumped ws actions sources m → Jumping ws actions old new (any || r) far (m + 1)
+  pub jumping-next : (r : Bool) (new : List ℕ) → r ≡ jumps ws actions sources m → new ≡ jumped ws actions sources m → Jumping ws actions n down old new (any || r) far (i + 1)
   jumping-next r new q p =
       rw (q, p) record {
         traced = jumped-traced ws actions sources m (j .traced) l;
-        round = λ details h. round-next ws actions details sources far m (j .traced) l (j .round details h);
-        same = λ e. unmoved e ∙ j .same (or-false-left any _ e);
+        round = λ details h. round-next ws actions details n down sources far i m e (j .traced) l (j .round details h);
+        same = λ f. unmoved f ∙ j .same (or-false-left any _ f);
         still = still-more;
       }
+
+-- all nodes passed: twice as far, or as far as can be where none jumped
+module _ (ws : List Wire) (actions : List ℕ) (n : ℕ) (down : Bool) (old sources : List ℕ) (any : Bool) (far i : ℕ) (l : n ≤ i) (j : Jumping ws actions n down old sources any far i) (details : List ℕ) (s : Shaped ws n actions details) (o : Jumped ws actions details old far) where
+  each-select : (P : ℕ → Type 0) → ((k : ℕ) → k < i → P (turned n down k)) → (m : ℕ) → getD actions m 0 ≡ 2 → P m
+  each-select P p m h = rw (t .1) at (p (turned n down m) (omega (arith, t .0)))
+    where
+      t : (turned n down m < n) × (turned n down (turned n down m) ≡ m)
+      t = turned-twice n down m (planned-low ws actions details n s m (λ e. let z : _≡_ {A = ℕ} 2 0 = sym h ∙ e in omega arith))
+
+  pub jumping-end : Jumped ws actions details sources (2 * far)
+  jumping-end m h = each-select (λ x. getD actions x 0 ≡ 2 → Along ws actions details (2 * far) x (getD sources x 0)) (j .round details o .before) m h h
+
+  pub jumping-still : any ≡ false → (far′ : ℕ) → Jumped ws actions details sources far′
+  jumping-still e far′ m h = along-ended ws actions details n down far far′ m _ (jumps-not ws actions sources m (each-select (λ x. jumps ws actions sources x ≡ false) (j .still e) m h) h) (rw (j .same e) (o m h))
 
 -- ---- the start and the end
 

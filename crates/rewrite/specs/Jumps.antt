@@ -1,6 +1,6 @@
 -- Rounds in which each planned Select takes over the wire of the Select that its own wire starts at: after a few of them each has come to the end
 -- of its chain of sources, or far round a cycle.
-use Prim.Native.Nat.{ℕ, _+_, _≤_}
+use Prim.Native.Nat.{ℕ, _+_, _-_, _≤_}
 use mathlib.Core.Path.{_≡_}
 use mathlib.Core.Bool.{Bool, cond, _&&_}
 use mathlib.Core.List.{List}
@@ -19,6 +19,10 @@ jumps ws actions sources m = eqb (getD actions m 0) 2 && eqb (getD actions (pass
 
 unfoldable pub jumped : List Wire → List ℕ → List ℕ → ℕ → List ℕ
 jumped ws actions sources m = cond (jumps ws actions sources m) (set sources m (getD sources (passedTo ws sources m .«node_id») 0)) sources
+
+-- the node that a round over n nodes comes to after i others, upwards or downwards
+abbrev pub turned : ℕ → Bool → ℕ → ℕ
+turned n down i = cond down (n - 1 - i) i
 
 -- by wire s planned Select m has come some steps along its chain of sources, at least `far` where it is still at a Select
 pub record Along (ws : List Wire) (actions details : List ℕ) (far m s : ℕ) : Type 0 where

@@ -18,7 +18,7 @@ ghost use Rattle.records.specs.Access.{wiresOf, Bounded};
 ghost use Rattle.model.specs.Rewrite.{follow};
 ghost use Rattle.state.specs.Planned.{shapeOf, Shaped};
 ghost use Rattle.rewrite.specs.Sources.{Sources, Traced, originOf, settledAt};
-ghost use Rattle.rewrite.specs.Jumps.{jumps, jumped, Jumped};
+ghost use Rattle.rewrite.specs.Jumps.{jumps, jumped, turned, Jumped};
 
 // Planned Select m takes over the wire of the Select that its own wire starts at; whether it starts at one.
 fn jump(
@@ -41,27 +41,38 @@ fn jump(
     true
 }
 
-// One round. Selects that are still at a Select have come `far` steps before it, and as many as it returns after it.
+// The node that a round comes to after i others, upwards or downwards.
+fn turned(nodes: usize, down: bool, i: usize) -> usize
+    requires { ⌜ i < nodes ⌝ }
+    ensures { λ r. ⌜ (r < nodes) × (r ≡ turned nodes down i) ⌝ }
+{
+    if down { nodes - 1 - i } else { i }
+}
+
+// One round, upwards or downwards. Selects that are still at a Select have come `far` steps before it, and as many as it returns after it.
 fn jump_all(
     wires: &[u8],
     nodes: usize,
     actions: &[u8; limit::NODES],
     sources: &mut [u16; limit::NODES],
     far: usize,
+    down: bool,
 ) -> usize
     requires { ⌜ Traced (wiresOf (now wires)) (now actions) (now sources) × (nodes ≤ maxNodes) × (0 < far) × (far < nodes) ⌝ }
     ensures { λ r. ⌜ Traced (wiresOf (now (wires .entry))) (now (actions .entry)) (now (sources .exit)) × (far < r) × ((details : List ℕ) → Shaped (wiresOf (now (wires .entry))) nodes (now (actions .entry)) details → Jumped (wiresOf (now (wires .entry))) (now (actions .entry)) details (now (sources .entry)) far → Jumped (wiresOf (now (wires .entry))) (now (actions .entry)) details (now (sources .exit)) r) ⌝ }
 {
     let mut any = false;
-    let mut m: usize = 0;
-    while m < nodes {
+    let mut i: usize = 0;
+    while i < nodes {
+        let m = turned(nodes, down, i);
         any = any | jump(wires, actions, sources, m);
-        m = m + 1;
+        i = i + 1;
     }
     if any { 2 * far } else { nodes }
 }
 
-// The number of the wire whose source each planned Select's chain of sources comes to.
+// The number of the wire whose source each planned Select's chain of sources comes to. One round upwards follows a chain of falling numbers to
+// its end, and one round downwards a chain of rising ones.
 pub fn fill(
     wires: &[u8],
     nodes: usize,
@@ -77,8 +88,10 @@ pub fn fill(
         return;
     }
     let mut far: usize = 1;
+    let mut down = false;
     while far < nodes {
-        far = jump_all(wires, nodes, actions, sources, far);
+        far = jump_all(wires, nodes, actions, sources, far, down);
+        down = !down;
     }
 }
 

@@ -11,11 +11,11 @@ use Rattle.rewrite.proofs.sources.fill.Statement.{statement}
 use Rattle.rewrite.proofs.sources.fill.Tie as tie
 
 abbrev Inv-loop : tie.InvT-loop
-Inv-loop wires nodes actions details sources₀ far₀ sources far =
+Inv-loop wires nodes actions details sources₀ far₀ down₀ sources far down =
     Traced (wiresOf wires) actions sources × (0 < far) × Jumped (wiresOf wires) actions details sources far
 
 abbrev μ-loop : tie.MeasureT-loop
-μ-loop wires nodes actions details sources₀ far₀ sources far =
+μ-loop wires nodes actions details sources₀ far₀ down₀ sources far down =
     nodes - far
 
 has-action-requires : tie.Need-has-action-requires Inv-loop μ-loop
