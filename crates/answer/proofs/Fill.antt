@@ -1,5 +1,5 @@
 -- Records written one after the other, one for each number below n.
-use Prim.Native.Nat.{ℕ, suc, _+_, _≤_, _<_}
+use Prim.Native.Nat.{ℕ, zero, suc, _+_, _*_, _≤_, _<_}
 use native.Mathlib.Omega.{arith}
 use native.Mathlib.Decide.{le-ind}
 use native.Mathlib.Numerals.{add-one}
@@ -62,3 +62,9 @@ sizes-start f h = refl
 
 pub sizes-next : (f h : ℕ → List ℕ) (i sum a b : ℕ) → sum ≡ length (each f (upTo i)) + length (each h (upTo i)) → a ≡ length (f i) → b ≡ length (h i) → sum + (a + b) ≡ length (each f (upTo (i + 1))) + length (each h (upTo (i + 1)))
 sizes-next f h i sum a b e p q = omega (arith, each-size f i, each-size h i)
+
+pub sizes-most : (f h : ℕ → List ℕ) (n : ℕ) → ((i : ℕ) → i < n → length (f i) + length (h i) ≤ 23) → length (each f (upTo n)) + length (each h (upTo n)) ≤ 23 * n
+unfolding upTo each
+sizes-most f h zero b = omega arith
+sizes-most f h (suc n) b =
+    omega (arith, sizes-most f h n (λ i l. b i (omega arith)), b n (omega arith), ap length (each-up f n), length-append (each f (upTo n)) (f n), ap length (each-up h n), length-append (each h (upTo n)) (h n))

@@ -84,6 +84,23 @@ module _ (i kind a b c d : ℕ) where
   unfolding fateBy held literalFate bytesOf
   fate-literal action e l h = let z : kind ≢ 0 = λ e. omega arith in rw (e, ne-eqb kind 0 z) (omega (arith, sized kind a b c d l h .size))
 
+  -- the two records of a node with a scalar value, or with none
+  pub scalar-sizes : (action : ℕ) → isKind kind → kind ≤ 5 → length (knownBytes i (held kind a b c d)) + length (fateBy i action (held kind a b c d)) ≤ 23
+  scalar-sizes action k l = go (ℕ-discrete kind 0) (ℕ-discrete action 1)
+    where
+      small : 3 ≤ kind → bodyOf kind ≤ 11
+      small h = pick (ℕ-discrete kind 3) (ℕ-discrete kind 4)
+        where
+          pick : Dec (kind ≡ 3) → Dec (kind ≡ 4) → bodyOf kind ≤ 11
+          pick (yes e) q = rw e (omega arith)
+          pick (no p) (yes e) = rw e (omega arith)
+          pick (no p) (no q) = let e : kind ≡ 5 = omega arith in rw e (omega arith)
+
+      go : Dec (kind ≡ 0) → Dec (action ≡ 1) → length (knownBytes i (held kind a b c d)) + length (fateBy i action (held kind a b c d)) ≤ 23
+      go (yes e) q = omega (arith, known-none e, fate-unknown action e)
+      go (no e) (yes q) = let h = some-kind kind k e in omega (arith, small (h .0), known-some (h .0) (h .1), fate-literal action q (h .0) (h .1))
+      go (no e) (no q) = let h = some-kind kind k e in omega (arith, small (h .0), known-some (h .0) (h .1), fate-other action q)
+
 -- ---- what is written of a node
 
 pub kind-low : (v : Value) → kindOf v ≤ 9

@@ -8,7 +8,7 @@ use state::WORDS;
 use value::OptionValue;
 use value::Value;
 ghost use mathlib.Core.Path.{_≡_};
-ghost use mathlib.Core.Bool.{cond};
+ghost use mathlib.Core.Bool.{true, cond};
 ghost use mathlib.Core.Option.{some};
 ghost use mathlib.Core.List.{List, _++_};
 ghost use mathlib.Core.Logic.{_⊎_};
@@ -31,6 +31,9 @@ const FATE_LITERAL: u8 = 0x0F;
 
 // How long a record of a fate is without a value.
 const FATE_SIZE: usize = 3;
+
+// How long the two records of a node are at most where its value is a scalar.
+const SCALAR_SIZES: usize = 23;
 
 // ---- sizes
 
@@ -70,6 +73,24 @@ pub fn nodes_size(kinds: &[u8; limit::NODES], actions: &[u8; limit::NODES], node
         i += 1;
     }
     sum
+}
+
+// Whether the records of the first `nodes` nodes fit so much room. With scalars alone a node's two records have at most 12 and 11 bytes.
+pub fn nodes_fit(
+    kinds: &[u8; limit::NODES],
+    actions: &[u8; limit::NODES],
+    nodes: usize,
+    room: usize,
+) -> bool
+    requires { ⌜ (nodes ≤ maxNodes) × ((m : ℕ) → isKind (getD (now kinds) m 0)) ⌝ }
+    ensures { λ r. ⌜ (r ≡ true → (words : List ℕ) → length (knownRecords (now (kinds .entry)) words nodes) + length (fateRecords (now (kinds .entry)) words (now (actions .entry)) nodes) ≤ room) ⌝ }
+{
+    if SCALAR_SIZES * nodes <= room {
+        if !state::any_above(kinds, nodes, kind::BOOL) {
+            return true;
+        }
+    }
+    nodes_size(kinds, actions, nodes) <= room
 }
 
 // ---- writing

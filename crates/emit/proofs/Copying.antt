@@ -1,22 +1,29 @@
--- The copy of the wire records, where nothing is planned.
+-- The wires that stay, and the copy of all where nothing is planned.
 use mathlib.Core.Path.{_≡_, refl, sym, ap, _∙_, subst}
+use mathlib.Core.Bool.{cond}
 use mathlib.Core.List.{List, [], _∷_, _++_}
-use Prim.Native.Nat.{ℕ, _+_, _*_, _≤_, _<_}
+use Prim.Native.Nat.{ℕ, _+_, _*_, _/_, _≤_, _<_}
 use native.Mathlib.Omega.{arith}
 use native.Mathlib.Numerals.{add-one}
+use lib.Dec.{eqb}
 use lib.ListN.{length, getD, set, take, length-append}
 use lib.Seq.{take-suc, take-all, length-take-le}
+use borrow.Author.Tests.{ne-eqb}
+use Rattle.ir.specs.Ports.{output}
 use Rattle.encoding.specs.Numbers.{Written}
 use Rattle.encoding.specs.Wires.{wireBytes}
 use Rattle.encoding.proofs.Splices.{written-length, written-more, stored-1}
-use Rattle.records.specs.Access.{wiresOf}
+use Rattle.ir.specs.declared.Wire.{Wire}
+use Rattle.records.specs.Access.{wiresOf, noWire}
+use Rattle.records.proofs.Runs.{wires-length}
 use Rattle.model.specs.Answer.{each}
-use Rattle.model.specs.Rewrite.{rewriteWires}
-use Rattle.state.specs.Planned.{shapeOf}
-use Rattle.answer.proofs.Fill.{written-none}
-use Rattle.rewrite.proofs.Unplanned.{wires-stay}
-use Rattle.emit.specs.Emit.{orNil, EmitsAll}
+use Rattle.model.specs.Maps.{upTo}
+use Rattle.answer.proofs.Fill.{each-append, written-none}
+use Rattle.rewrite.specs.Tallied.{keptWire, keptWires}
+use Rattle.rewrite.proofs.KeptTargets.{kept-few, all-kept}
+use Rattle.emit.specs.Emit.{KeepsAll}
 use Rattle.emit.proofs.Fanning.{wires-size}
+use Rattle.emit.proofs.Writing.{by-number}
 
 -- the first i bytes are copied, of those that fit
 pub record Copying (bs l m : List ℕ) (at i : ℕ) : Type 0 where
@@ -41,12 +48,38 @@ module _ {bs l m : List ℕ} {at i : ℕ} (s : Copying bs l m at i) where
   pub copy-end : length bs ≤ i → Written bs l m at (at + i)
   copy-end h = rw (take-all i bs h) at (s .wrote)
 
-module _ {wires : List ℕ} {n : ℕ} {actions details sources counts first next : List ℕ} {at size : ℕ} (E : EmitsAll wires n actions details sources counts first next at size) (no-plan : (m : ℕ) → m < n → getD actions m 0 ≡ 0) where
-  unchanged : orNil (rewriteWires (shapeOf (wiresOf wires) actions details) n (wiresOf wires)) ≡ wiresOf wires
-  unchanged = ap orNil (wires-stay (wiresOf wires) actions details n (E .ready .shaped) no-plan (wiresOf wires))
+-- ---- the wires that stay
 
+module _ (actions : List ℕ) {v w : Wire} (e : v ≡ w) where
+  pub wire-goes : (getD actions (v .target .«node_id») 0 ≡ 0 → ⊥) → keptWire actions w ≡ []
+  unfolding keptWire
+  wire-goes h = rw (← e, ne-eqb (getD actions (v .target .«node_id») 0) 0 h) refl
+
+  pub wire-stays : {port : ℕ} → getD actions (v .target .«node_id») 0 ≡ 0 → port ≡ cond (eqb (getD actions (v .source .«node_id») 0) 0) (v .source .port) output
+      → keptWire actions w ≡ record { source = record { «node_id» = v .source .«node_id»; port = port }; target = v .target } ∷ []
+  unfolding keptWire
+  wire-stays h p = rw (← e, h, p) refl
+
+module _ {wires : List ℕ} {n at size : ℕ} (K : KeepsAll wires n at size) where
   pub copy-room : at + length wires ≤ size
-  copy-room = omega (arith, E .room, ap length unchanged, ap length (E .records), wires-size (wiresOf wires))
+  copy-room = omega (arith, K .room, ap length (K .records), wires-size (wiresOf wires))
 
-  pub copied : {before after : List ℕ} {past : ℕ} → Written wires before after at past → Written (each wireBytes (orNil (rewriteWires (shapeOf (wiresOf wires) actions details) n (wiresOf wires)))) before after at past
-  copied {before} {after} {past} w = subst (λ (l : List ℕ). Written l before after at past) (E .records ∙ ap (each wireBytes) (sym unchanged)) w
+  -- nothing is planned
+  pub copied : (actions : List ℕ) → ((m : ℕ) → m < n → getD actions m 0 ≤ 0) → {before after : List ℕ} {past : ℕ} → Written wires before after at past → Written (each wireBytes (keptWires actions (wiresOf wires))) before after at past
+  copied actions low {before} {after} {past} w =
+      subst (λ (l : List ℕ). Written l before after at past) (K .records ∙ ap (each wireBytes) (sym (all-kept actions n (λ m l. omega (arith, low m l)) (wiresOf wires) (K .bounded .named)))) w
+
+  -- the bytes of the wires that stay, by the numbers of all
+  kept-bytes : (actions : List ℕ) (ws : List Wire) → each (λ w. each wireBytes (keptWire actions w)) ws ≡ each wireBytes (keptWires actions ws)
+  unfolding each keptWires
+  kept-bytes actions [] = refl
+  kept-bytes actions (w ∷ ws) = ap (λ (l : List ℕ). each wireBytes (keptWire actions w) ++ l) (kept-bytes actions ws) ∙ sym (each-append wireBytes (keptWire actions w) (keptWires actions ws))
+
+  pub kept-each : (actions : List ℕ) → each (λ i. each wireBytes (keptWire actions (getD (wiresOf wires) i noWire))) (upTo (length wires / 7)) ≡ each wireBytes (keptWires actions (wiresOf wires))
+  kept-each actions =
+      ap (λ (k : ℕ). each (λ i. each wireBytes (keptWire actions (getD (wiresOf wires) i noWire))) (upTo k)) (sym (wires-length wires))
+      ∙ (by-number (λ w. each wireBytes (keptWire actions w)) (wiresOf wires) (length (wiresOf wires)) (omega arith)
+      ∙ (ap (each (λ w. each wireBytes (keptWire actions w))) (take-all (length (wiresOf wires)) (wiresOf wires) (omega arith)) ∙ kept-bytes actions (wiresOf wires)))
+
+  pub kept-room : (actions : List ℕ) → at + length (each (λ i. each wireBytes (keptWire actions (getD (wiresOf wires) i noWire))) (upTo (length wires / 7))) ≤ size
+  kept-room actions = rw (kept-each actions) (omega (arith, K .room, wires-size (keptWires actions (wiresOf wires)), kept-few actions (wiresOf wires)))

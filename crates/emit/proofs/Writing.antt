@@ -79,7 +79,7 @@ module _ (p : Map PlanAction) (n : ℕ) where
       ap₂ (λ (l m : List ℕ). l ++ m) (ap (λ (o : Option (List Wire)). each wireBytes (orNil o)) a) (bytes-all ws ys b) ∙ (sym (each-append wireBytes xs ys) ∙ ap (each wireBytes) (sym s))
 
 -- by the numbers of the wires
-by-number : (f : Wire → List ℕ) (ws : List Wire) (k : ℕ) → k ≤ length ws → each (λ i. f (getD ws i noWire)) (upTo k) ≡ each f (take k ws)
+pub by-number : (f : Wire → List ℕ) (ws : List Wire) (k : ℕ) → k ≤ length ws → each (λ i. f (getD ws i noWire)) (upTo k) ≡ each f (take k ws)
 unfolding upTo each
 by-number f ws zero l = refl
 by-number f ws (suc k) l =

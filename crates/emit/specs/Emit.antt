@@ -191,8 +191,13 @@ pub record EmitsEach (ws : List Wire) (n : ℕ) (actions details sources counts 
   pub prepared : Prepared ws n actions details sources counts first next
   pub room : at + 7 * length (orNil (rewriteWires (shapeOf ws actions details) n ws)) ≤ size
 
--- the same with the chains that `rewrite` left; the wire records are the bytes of the wires that they say
-pub record EmitsAll (wires : List ℕ) (n : ℕ) (actions details sources counts first next : List ℕ) (at size : ℕ) : Type 0 where
+-- the same with the chains that `rewrite` left
+pub record EmitsAll (ws : List Wire) (n : ℕ) (actions details sources counts first next : List ℕ) (at size : ℕ) : Type 0 where
+  pub ready : Ready ws n actions details sources counts first next
+  pub room : at + 7 * length (orNil (rewriteWires (shapeOf ws actions details) n ws)) ≤ size
+
+-- what the writing of the wires that stay needs: the wire records are the bytes of the wires that they say, and there is room for all of them
+pub record KeepsAll (wires : List ℕ) (n at size : ℕ) : Type 0 where
   pub records : wires ≡ each wireBytes (wiresOf wires)
-  pub ready : Ready (wiresOf wires) n actions details sources counts first next
-  pub room : at + 7 * length (orNil (rewriteWires (shapeOf (wiresOf wires) actions details) n (wiresOf wires))) ≤ size
+  pub bounded : Bounded (wiresOf wires) n
+  pub room : at + 7 * length (wiresOf wires) ≤ size

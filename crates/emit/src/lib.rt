@@ -6,7 +6,6 @@ use ir::limit;
 use records::access;
 use rewrite::Origin;
 use rewrite::counts;
-use rewrite::has_plan;
 use rewrite::sources as origins;
 use state::KEPT;
 ghost use mathlib.Core.Path.{_≡_};
@@ -22,6 +21,7 @@ ghost use Rattle.state.specs.Planned.{shapeOf};
 ghost use Rattle.emit.specs.Emit.{leadsTo, fan, Net, Standing, Descended, Pushed, Popable, Popped, Descends, Counts, Fans, orNil, becomes, rewritten, Prepared, Emits, EmitsEach, EmitsAll};
 ghost use Rattle.model.specs.Rewrite.{rewriteWires};
 
+pub mod kept;
 pub mod sharing;
 
 fn wide(x: u16) -> usize
@@ -266,20 +266,7 @@ fn write_all(
     past
 }
 
-// Copies wire records.
-fn copy_wires(wires: &[u8], out: &mut [u8], at: usize) -> usize
-    requires { ⌜ at + length (now wires) ≤ length (now out) ⌝ }
-    ensures { λ r. ⌜ Written (now (wires .entry)) (now (out .entry)) (now (out .exit)) at r ⌝ }
-{
-    let mut i: usize = 0;
-    while i < wires.len() {
-        out[at + i] = wires[i];
-        i += 1;
-    }
-    at + i
-}
-
-// Writes the rewritten wires. Where nothing is planned, they are those of the input.
+// Writes the rewritten wires.
 pub fn write_wires(
     wires: &[u8],
     nodes: usize,
@@ -292,12 +279,9 @@ pub fn write_wires(
     out: &mut [u8],
     at: usize,
 ) -> usize
-    requires { ⌜ EmitsAll (now wires) nodes (now actions) (now details) (now sources) (now counts) (now first) (now next) at (length (now out)) ⌝ }
+    requires { ⌜ EmitsAll (wiresOf (now wires)) nodes (now actions) (now details) (now sources) (now counts) (now first) (now next) at (length (now out)) ⌝ }
     ensures { λ r. ⌜ Written (each wireBytes (orNil (rewriteWires (shapeOf (wiresOf (now (wires .entry))) (now (actions .entry)) (now (details .entry))) nodes (wiresOf (now (wires .entry)))))) (now (out .entry)) (now (out .exit)) at r ⌝ }
 {
-    if !has_plan(actions, nodes) {
-        return copy_wires(wires, out, at);
-    }
     let mut chains = *first;
     sharing::share_chains(wires, nodes, actions, counts, &mut chains, next);
     write_all(

@@ -34,11 +34,12 @@ use Rattle.model.proofs.Refusals.{at-refusal}
 use Rattle.model.proofs.WireBytes.{section-bytes}
 use Rattle.state.specs.Planned.{shapeOf, Shaped}
 use Rattle.rewrite.specs.Rewritable.{Rewritable}
-use Rattle.rewrite.specs.Tallied.{Stuck, Counted}
+use Rattle.rewrite.specs.Tallied.{Stuck, Counted, keptWires}
+use Rattle.rewrite.proofs.KeptTargets.{wires-kept, kept-few, kept-counted}
 use Rattle.answer.specs.Nodes.{knownRecords, fateRecords}
 use Rattle.emit.specs.Emit.{orNil, Ready, EmitsAll}
 use Rattle.folding.specs.declared.Outcome.{Outcome}
-use Rattle.folding.specs.Entry.{numbers, Answers, Indexes, Settled, Rewrote}
+use Rattle.folding.specs.Entry.{numbers, Answers, Indexes, Settled, Rewrote, Kept}
 use Rattle.folding.proofs.Answers.{bytesIn, bytes-size, outcome-endless, outcome-many, outcome-long, outcome-folds}
 
 -- an accepted input has its graph
@@ -88,26 +89,26 @@ module _ {input : List ℕ} {c : Counts} {kinds words actions details : List ℕ
       let z : place ≡ wireOffset g (endlessIndex (shapeOf (g .wires) actions details) (size g) (g .wires)) = e ∙ ap₂ (λ (d : Counts) (i : ℕ). 3 * d .nodes + 7 * i) (counted input c (W .accepts)) (S .first) in
       refuse (outcome-endless input (length before) g read kinds words actions details (W .holds) (S .endless) ∙ ap (refuses 9) (sym z))
 
-module _ {input : List ℕ} {c : Counts} {kinds words actions details sources targets first next : List ℕ} {count pops : ℕ} (R : Rewrote input c kinds words actions details sources targets first next count pops) where
+module _ {input : List ℕ} {c : Counts} {kinds words actions details : List ℕ} {count pops : ℕ} (W : Settled input c kinds words actions details pops) (C : Counted (shapeOf (graphOf input .wires) actions details) (size (graphOf input)) (graphOf input .wires) count) where
   abbrev h : Graph
   h = graphOf input
 
   abbrev ws : List Wire
-  ws = R .counted .rewritten
+  ws = C .rewritten
 
   is-read : decode input ≡ accepted h
-  is-read = accepted-graph input c (R .worked .accepts)
+  is-read = accepted-graph input c (W .accepts)
 
   -- question 11: too many wires
   pub refuse-many : {before : List ℕ} → maxWires < count → Answers input before before (Outcome.Refused 10 0)
   unfolding cap
   refuse-many {before} l =
-      refuse (outcome-many input (length before) h is-read kinds words actions details (R .worked .holds) ws (R .counted .ends) (omega (arith, R .counted .many)))
+      refuse (outcome-many input (length before) h is-read kinds words actions details (W .holds) ws (C .ends) (omega (arith, C .many)))
 
   module _ (l : count ≤ maxWires) where
     pub exact : count ≡ length ws
     unfolding cap
-    exact = omega (arith, R .counted .many)
+    exact = omega (arith, C .many)
 
     whole : length (bytesIn (size h) kinds words actions ws) ≡ length (knownRecords kinds words (size h)) + length (fateRecords kinds words actions (size h)) + 7 * count
     whole = bytes-size (size h) kinds words actions ws ∙ omega (arith, exact)
@@ -115,18 +116,18 @@ module _ {input : List ℕ} {c : Counts} {kinds words actions details sources ta
     -- question 11: too long an answer
     pub refuse-long : {before : List ℕ} {size-of : ℕ} → size-of ≡ length (knownRecords kinds words (size h)) + length (fateRecords kinds words actions (size h)) + 7 * count → length before < size-of → Answers input before before (Outcome.Refused 10 0)
     refuse-long {before} {size-of} e m =
-        refuse (outcome-long input (length before) h is-read kinds words actions details (R .worked .holds) ws (R .counted .ends) (omega (arith, exact)) (omega (arith, whole)))
+        refuse (outcome-long input (length before) h is-read kinds words actions details (W .holds) ws (C .ends) (omega (arith, exact)) (omega (arith, whole)))
 
     ws-is : orNil (rewriteWires (shapeOf (h .wires) actions details) (size h) (h .wires)) ≡ ws
-    ws-is = ap orNil (R .counted .ends)
+    ws-is = ap orNil (C .ends)
 
-    pub ready : Ready (h .wires) (size h) actions details sources targets first next
-    ready =
+    pub ready : {sources targets first next : List ℕ} → Rewritable (h .wires) (size h) actions details sources targets first next → Ready (h .wires) (size h) actions details sources targets first next
+    ready R =
         record {
           bounded = (unfold size in bounded input);
-          shaped = R .worked .holds .shaped;
-          rewritable = R .rewritable;
-          ends = R .counted .ends ∙ ap some (sym ws-is);
+          shaped = W .holds .shaped;
+          rewritable = R;
+          ends = C .ends ∙ ap some (sym ws-is);
           few = omega (arith, ap length ws-is, exact);
         }
 
@@ -142,9 +143,9 @@ module _ {input : List ℕ} {c : Counts} {kinds words actions details sources ta
         let z' : Written T two three b r = rw ws-is at z in
         let xy = written-more x (omega (arith, m, length-append K F)) y in
         let w = written-more xy (omega (arith, m, whole)) z' in
-        let e : outcome input (length before) ≡ folds (bytesIn (size h) kinds words actions ws) (foldOf h .pops) = outcome-folds input (length before) h is-read kinds words actions details (R .worked .holds) ws (R .counted .ends) (omega (arith, exact)) (omega (arith, m, whole)) in
+        let e : outcome input (length before) ≡ folds (bytesIn (size h) kinds words actions ws) (foldOf h .pops) = outcome-folds input (length before) h is-read kinds words actions details (W .holds) ws (C .ends) (omega (arith, exact)) (omega (arith, m, whole)) in
         record {
-          result = rw e (ap₂ (λ (i j : ℕ). record { number = 0; place = 0; length = i; pops = j }) (w .past ∙ omega arith) (R .worked .pops-are));
+          result = rw e (ap₂ (λ (i j : ℕ). record { number = 0; place = 0; length = i; pops = j }) (w .past ∙ omega arith) (W .pops-are));
           buffer = rw e (w .wrote ∙ splice-start before (bytesIn (size h) kinds words actions ws));
         }
 
@@ -153,8 +154,8 @@ module _ {input : List ℕ} {c : Counts} {kinds words actions details sources ta
       pub long-at : {before : List ℕ} {size-of : ℕ} → size-of ≡ length (knownRecords kinds words n) + length (fateRecords kinds words actions n) + 7 * count → length before < size-of → Answers input before before (Outcome.Refused 10 0)
       long-at {before} {size-of} q m = refuse-long {before = before} {size-of = size-of} (rw e at q) m
 
-      pub ready-at : Ready vs n actions details sources targets first next
-      ready-at = subst₂ (λ (m : ℕ) (us : List Wire). Ready us m actions details sources targets first next) (sym e) (sym f) ready
+      pub ready-at : {sources targets first next : List ℕ} → Rewritable (h .wires) (size h) actions details sources targets first next → Ready vs n actions details sources targets first next
+      ready-at {sources} {targets} {first} {next} R = subst₂ (λ (m : ℕ) (us : List Wire). Ready us m actions details sources targets first next) (sym e) (sym f) (ready R)
 
       pub wires-at : length (orNil (rewriteWires (shapeOf vs actions details) n vs)) ≡ count
       wires-at = rw (e, f) (ap length ws-is ∙ sym exact)
@@ -163,6 +164,40 @@ module _ {input : List ℕ} {c : Counts} {kinds words actions details sources ta
           → Written (knownRecords kinds words n) before one 0 a → Written (fateRecords kinds words actions n) one two a b → Written (each wireBytes (orNil (rewriteWires (shapeOf vs actions details) n vs))) two three b r
           → Answers input before three (Outcome.Folded r pops)
       folded-at m x y z = folded (rw e at m) (rw e at x) (rw e at y) (rw (e, f) at z)
+
+-- ---- where neither a Select nor a Branch is planned
+
+module _ {input : List ℕ} {c : Counts} {kinds words actions : List ℕ} {pops size-of : ℕ} (K : Kept input c kinds words actions pops size-of) {vs : List Wire} (f : vs ≡ graphOf input .wires) where
+  nodes-of : c .nodes ≡ size (graphOf input)
+  nodes-of = nodes-are input c (K .worked .accepts)
+
+  pub wires-are : c .wires ≡ length vs
+  wires-are = ap (λ (d : Counts). d .wires) (counted input c (K .worked .accepts)) ∙ sym (ap length f)
+
+  low-at : (m : ℕ) → m < size (graphOf input) → getD actions m 0 ≤ 1
+  low-at m l = K .low m (omega (arith, nodes-of, l))
+
+  shape : Shaped (graphOf input .wires) (size (graphOf input)) actions (K .details)
+  shape = K .worked .holds .shaped
+
+  few : length (keptWires actions (graphOf input .wires)) ≤ length vs
+  few = omega (arith, kept-few actions (graphOf input .wires), ap length f)
+
+  pub few-wires : length vs ≤ maxWires
+  few-wires = omega (arith, bounded input .few-wires, ap length f)
+
+  tallied : Counted (shapeOf (graphOf input .wires) actions (K .details)) (size (graphOf input)) (graphOf input .wires) (length (keptWires actions (graphOf input .wires)))
+  tallied =
+      kept-counted (graphOf input .wires) actions (K .details) (size (graphOf input)) shape low-at (graphOf input .wires) (omega (arith, few, few-wires)) _ refl
+
+  stay : orNil (rewriteWires (shapeOf vs actions (K .details)) (c .nodes) vs) ≡ keptWires actions vs
+  stay = rw (nodes-of, f) (ap orNil (wires-kept (graphOf input .wires) actions (K .details) (size (graphOf input)) shape low-at (graphOf input .wires)))
+
+  pub kept-folded : {before one two three : List ℕ} {a b r : ℕ} → length before ≡ size-of
+      → Written (knownRecords kinds words (c .nodes)) before one 0 a → Written (fateRecords kinds words actions (c .nodes)) one two a b → Written (each wireBytes (keptWires actions vs)) two three b r
+      → Answers input before three (Outcome.Folded r pops)
+  kept-folded {two = two} {three = three} {b = b} {r = r} e x y z =
+      folded-at (K .worked) tallied (omega (arith, few, few-wires)) (c .nodes) vs nodes-of f (omega (arith, K .room, few, wires-are, e)) x y (subst (λ (us : List Wire). Written (each wireBytes us) two three b r) (sym stay) z)
 
 -- ---- what each stage needs of the one before
 

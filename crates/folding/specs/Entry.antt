@@ -1,8 +1,8 @@
 -- What the entry returns and writes.
-use Prim.Native.Nat.{ℕ}
+use Prim.Native.Nat.{ℕ, _+_, _*_, _≤_, _<_}
 use mathlib.Core.Path.{_≡_}
 use mathlib.Core.List.{List}
-use lib.ListN.{length}
+use lib.ListN.{length, getD}
 use Rattle.graph.specs.Decode.{graphOf}
 use Rattle.graph.specs.declared.Counts.{Counts}
 use Rattle.graph.specs.Index.{Indexed}
@@ -12,6 +12,7 @@ use Rattle.model.specs.Inputs.{size}
 use Rattle.model.specs.Outcome.{Numbers, numbersOf, written, outcome}
 use Rattle.model.specs.Demands.{foldOf}
 use Rattle.state.specs.Planned.{shapeOf, Holds}
+use Rattle.answer.specs.Nodes.{knownRecords, fateRecords}
 use Rattle.rewrite.specs.Rewritable.{Rewritable}
 use Rattle.rewrite.specs.Tallied.{Counted}
 use Rattle.folding.specs.declared.Outcome.{Outcome}
@@ -48,3 +49,10 @@ pub record Rewrote (input : List ℕ) (c : Counts) (kinds words actions details 
   pub worked : Settled input c kinds words actions details pops
   pub rewritable : Rewritable (graphOf input .wires) (size (graphOf input)) actions details sources targets first next
   pub counted : Counted (shapeOf (graphOf input .wires) actions details) (size (graphOf input)) (graphOf input .wires) count
+
+-- neither a Select nor a Branch is planned, and a buffer of this size holds the records of the nodes and every wire of the input
+pub record Kept (input : List ℕ) (c : Counts) (kinds words actions : List ℕ) (pops size : ℕ) : Type 0 where
+  pub details : List ℕ
+  pub worked : Settled input c kinds words actions details pops
+  pub low : (m : ℕ) → m < c .nodes → getD actions m 0 ≤ 1
+  pub room : length (knownRecords kinds words (c .nodes)) + length (fateRecords kinds words actions (c .nodes)) + 7 * c .wires ≤ size

@@ -1,4 +1,5 @@
 // The whole fold: a graph's records in, the answer's records out.
+use emit::kept;
 use encoding::wires as wire_records;
 use graph::Counts;
 use graph::Decoded;
@@ -12,14 +13,18 @@ use table::CELLS;
 use worklist::Worked;
 ghost use mathlib.Core.Path.{_≡_};
 ghost use mathlib.Core.List.{List};
-ghost use Prim.Native.Nat.{ℕ, _≤_};
+ghost use mathlib.Core.Bool.{true};
+ghost use Prim.Native.Nat.{ℕ, _+_, _*_, _≤_};
 ghost use lib.ListN as ListN;
-ghost use lib.ListN.{length, take};
+ghost use lib.ListN.{length, getD, take};
+ghost use Rattle.ir.specs.Limits.{maxNodes, maxWires};
 ghost use Rattle.graph.specs.Decode.{graphOf};
 ghost use Rattle.graph.specs.Index.{Indexed};
 ghost use Rattle.records.specs.Access.{Accepts};
 ghost use Rattle.model.specs.Outcome.{numbersOf, written, outcome};
-ghost use Rattle.folding.specs.Entry.{numbers, Answers, Indexes, Settled, Rewrote};
+ghost use Rattle.state.specs.Held.{isKind};
+ghost use Rattle.answer.specs.Nodes.{knownRecords, fateRecords};
+ghost use Rattle.folding.specs.Entry.{numbers, Answers, Indexes, Settled, Rewrote, Kept};
 ghost use Rattle.folding.specs.Demands.{Refusals, EndlessAt, Accepted, OrderFree, AnswerOf, PopsOf, FinitePlan, CleanWires};
 
 // The answer's length and the pops, or a refusal's number and place.
@@ -68,9 +73,7 @@ fn write_answer(
             place: 0,
         };
     }
-    let from = access::wires_offset(input, counts);
-    let to = access::properties_offset(input, counts);
-    let wires = &input[from..to];
+    let wires = access::wires(input, counts);
     let fates = answer::write_known_records(kinds, words, nodes, out, 0);
     let past = answer::write_fates(kinds, words, actions, nodes, out, fates);
     let length = emit::write_wires(
@@ -143,6 +146,69 @@ fn rewrite_graph(
     }
 }
 
+// Whether a buffer of so much room holds the records of the nodes and every wire of the input.
+fn holds_all(
+    counts: Counts,
+    kinds: &[u8; limit::NODES],
+    actions: &[u8; limit::NODES],
+    room: usize,
+) -> bool
+    requires { ⌜ (counts .nodes ≤ maxNodes) × (counts .wires ≤ maxWires) × ((m : ℕ) → isKind (getD (now kinds) m 0)) ⌝ }
+    ensures { λ r. ⌜ (r ≡ true → (words : List ℕ) → length (knownRecords (now (kinds .entry)) words (counts .nodes)) + length (fateRecords (now (kinds .entry)) words (now (actions .entry)) (counts .nodes)) + 7 * counts .wires ≤ room) ⌝ }
+{
+    let wires = wire_records::SIZE * counts.wires;
+    if room < wires {
+        return false;
+    }
+    answer::nodes_fit(kinds, actions, counts.nodes, room - wires)
+}
+
+// The answer where neither a Select nor a Branch is planned, into a buffer that holds every wire of the input.
+fn write_kept(
+    input: &[u8],
+    counts: Counts,
+    kinds: &[u8; limit::NODES],
+    words: &[u64; WORDS],
+    actions: &[u8; limit::NODES],
+    pops: usize,
+    out: &mut [u8],
+) -> Outcome
+    requires { ⌜ Kept (now input) counts (now kinds) (now words) (now actions) pops (length (now out)) ⌝ }
+    ensures { λ r. ⌜ Answers (now (input .entry)) (now (out .entry)) (now (out .exit)) r ⌝ }
+{
+    let nodes = counts.nodes;
+    let from = access::wires_offset(input, counts);
+    let to = access::properties_offset(input, counts);
+    let wires = &input[from..to];
+    let fates = answer::write_known_records(kinds, words, nodes, out, 0);
+    let past = answer::write_fates(kinds, words, actions, nodes, out, fates);
+    let length = kept::write_wires(wires, nodes, actions, out, past);
+    Outcome::Folded { length, pops }
+}
+
+// Questions 10 and 11, and the answer. Without a planned Select or Branch every wire's rewriting ends, and the wires only get fewer: they are counted
+// only where the buffer may be too short.
+fn answer_graph(
+    input: &[u8],
+    counts: Counts,
+    kinds: &[u8; limit::NODES],
+    words: &[u64; WORDS],
+    actions: &[u8; limit::NODES],
+    details: &[u16; limit::NODES],
+    pops: usize,
+    out: &mut [u8],
+) -> Outcome
+    requires { ⌜ Settled (now input) counts (now kinds) (now words) (now actions) (now details) pops ⌝ }
+    ensures { λ r. ⌜ Answers (now (input .entry)) (now (out .entry)) (now (out .exit)) r ⌝ }
+{
+    if !state::any_above(actions, counts.nodes, state::BECOME_LITERAL) {
+        if holds_all(counts, kinds, actions, out.len()) {
+            return write_kept(input, counts, kinds, words, actions, pops, out);
+        }
+    }
+    rewrite_graph(input, counts, kinds, words, actions, details, pops, out)
+}
+
 // The worklist, question 9, and what follows.
 fn run_worklist(
     input: &[u8],
@@ -184,7 +250,7 @@ fn run_worklist(
             place: 0,
         };
     };
-    rewrite_graph(input, counts, &kinds, &words, &actions, &details, pops, out)
+    answer_graph(input, counts, &kinds, &words, &actions, &details, pops, out)
 }
 
 // The fold of an accepted input, whose properties the table indexes.

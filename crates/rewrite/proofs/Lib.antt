@@ -12,4 +12,3 @@ pub mod Counting
 pub mod Visits
 pub mod Tallying
 pub mod KeptTargets
-pub mod Unplanned

@@ -1,11 +1,13 @@
 -- What each case of `Rewriting` says of the wires.
-use Prim.Native.Nat.{ℕ, _+_, _≤_}
+use Prim.Native.Nat.{ℕ, _≤_}
 use mathlib.Core.Path.{_≡_}
 use mathlib.Core.Bool.{cond}
 use mathlib.Core.Option.{Option, none, some}
-use mathlib.Core.List.{List, [], _∷_}
+use mathlib.Core.List.{List, [], _∷_, _++_}
 use lib.Dec.{eqb}
 use lib.ListN.{length, getD}
+use Rattle.ir.specs.Ports.{output}
+use Rattle.ir.specs.declared.PortRef.{PortRef}
 use Rattle.ir.specs.declared.Wire.{Wire}
 use Rattle.records.specs.Access.{noWire}
 use Rattle.model.specs.Maps.{Map}
@@ -37,10 +39,19 @@ abbrev pub Tallied : Map PlanAction → ℕ → List Wire → Rewriting → Type
 Tallied p n ws (Endless index) = Stuck p n ws index
 Tallied p n ws (Wires count) = Counted p n ws count
 
--- how many of the wires enter nodes that stay
-unfoldable pub keptCount : List ℕ → List Wire → ℕ
-keptCount actions [] = 0
-keptCount actions (w ∷ ws) = cond (eqb (getD actions (w .target .«node_id») 0) 0) 1 0 + keptCount actions ws
+-- ---- neither a Select nor a Branch is planned
+
+-- "a planned literal source takes port Output"
+abbrev pub keptSource : List ℕ → PortRef → PortRef
+keptSource actions e = record { «node_id» = e .«node_id»; port = cond (eqb (getD actions (e .«node_id») 0) 0) (e .port) output }
+
+-- "a wire into a planned literal .. is dropped; one into a kept Literal stays"
+unfoldable pub keptWire : List ℕ → Wire → List Wire
+keptWire actions w = cond (eqb (getD actions (w .target .«node_id») 0) 0) (record { source = keptSource actions (w .source); target = w .target } ∷ []) []
+
+unfoldable pub keptWires : List ℕ → List Wire → List Wire
+keptWires actions [] = []
+keptWires actions (w ∷ ws) = keptWire actions w ++ keptWires actions ws
 
 -- ---- one wire
 

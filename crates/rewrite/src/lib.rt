@@ -17,7 +17,6 @@ pub mod tally;
 
 use ir::PortRef;
 use ir::limit;
-use state::KEPT;
 
 // What a Branch that leads into a cycle has for a count.
 pub const NO_COUNT: u16 = 4098;
@@ -57,20 +56,6 @@ pub fn has_action(actions: &[u8; limit::NODES], nodes: usize, action: u8) -> boo
     let mut node: usize = 0;
     while node < nodes {
         found = found | (actions[node] == action);
-        node = node + 1;
-    }
-    found
-}
-
-// Whether anything is planned.
-pub fn has_plan(actions: &[u8; limit::NODES], nodes: usize) -> bool
-    requires { ⌜ nodes ≤ maxNodes ⌝ }
-    ensures { λ r. ⌜ (r ≡ false → (m : ℕ) → m < nodes → getD (now (actions .entry)) m 0 ≡ 0) ⌝ }
-{
-    let mut found = false;
-    let mut node: usize = 0;
-    while node < nodes {
-        found = found | (actions[node] != KEPT);
         node = node + 1;
     }
     found

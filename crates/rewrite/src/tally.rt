@@ -3,16 +3,13 @@ use crate::NO_COUNT;
 use crate::Origin;
 use crate::Rewriting;
 use crate::counts;
-use crate::has_action;
-use crate::has_plan;
 use crate::sources as origins;
 use crate::wide;
 use encoding::wires as wire_records;
 use ir::limit;
 use records::access;
+use state::BECOME_LITERAL;
 use state::KEPT;
-use state::SHORT_CIRCUIT;
-use state::TRUNCATE;
 ghost use mathlib.Core.Path.{_≡_};
 ghost use mathlib.Core.List.{List};
 ghost use mathlib.Core.Bool.{cond};
@@ -24,7 +21,7 @@ ghost use Rattle.records.specs.Access.{wiresOf, noWire};
 ghost use Rattle.rewrite.specs.Linked.{Within};
 ghost use Rattle.model.specs.TargetCounts.{cap};
 ghost use Rattle.state.specs.Planned.{shapeOf};
-ghost use Rattle.rewrite.specs.Tallied.{Tallied, keptCount, byOrigin, Scannable, Filled, Weighs};
+ghost use Rattle.rewrite.specs.Tallied.{Tallied, keptWires, byOrigin, Scannable, Filled, Weighs};
 
 // Where counts stop.
 const COUNT_LIMIT: usize = 4097;
@@ -115,7 +112,7 @@ fn kept(wires: &[u8], actions: &[u8; limit::NODES], i: usize) -> usize
 // How many wires enter nodes that stay.
 fn count_kept(wires: &[u8], actions: &[u8; limit::NODES]) -> usize
     requires { ⌜ Within (wiresOf (now wires)) ⌝ }
-    ensures { λ r. ⌜ r ≡ keptCount (now (actions .entry)) (wiresOf (now (wires .entry))) ⌝ }
+    ensures { λ r. ⌜ r ≡ length (keptWires (now (actions .entry)) (wiresOf (now (wires .entry)))) ⌝ }
 {
     let wire_count = wires.len() / wire_records::SIZE;
     let mut count: usize = 0;
@@ -127,7 +124,7 @@ fn count_kept(wires: &[u8], actions: &[u8; limit::NODES]) -> usize
     count
 }
 
-// Where nothing is planned every wire stays. Wires are weighed only where a Select or a Branch is planned: else each stays, or goes with its target.
+// Wires are weighed only where a Select or a Branch is planned: else each stays, or goes with its target.
 pub fn scan(
     wires: &[u8],
     nodes: usize,
@@ -138,15 +135,7 @@ pub fn scan(
     requires { ⌜ Scannable (wiresOf (now wires)) (now actions) (now sources) (now counts) × (nodes ≤ maxNodes) ⌝ }
     ensures { λ r. ⌜ ((details : List ℕ) → Filled (wiresOf (now (wires .entry))) nodes (now (actions .entry)) details (now (sources .entry)) (now (counts .entry)) → Tallied (shapeOf (wiresOf (now (wires .entry))) (now (actions .entry)) details) nodes (wiresOf (now (wires .entry))) r) ⌝ }
 {
-    if !has_plan(actions, nodes) {
-        return Rewriting::Wires {
-            count: wires.len() / wire_records::SIZE,
-        };
-    }
-    if has_action(actions, nodes, SHORT_CIRCUIT) {
-        return weigh_all(wires, actions, sources, counts);
-    }
-    if has_action(actions, nodes, TRUNCATE) {
+    if state::any_above(actions, nodes, BECOME_LITERAL) {
         return weigh_all(wires, actions, sources, counts);
     }
     Rewriting::Wires {

@@ -6,8 +6,9 @@ use value::OptionValue;
 use value::Value;
 ghost use mathlib.Core.Path.{_≡_};
 ghost use mathlib.Core.List.{List};
+ghost use mathlib.Core.Bool.{false};
 ghost use mathlib.Core.Option.{none};
-ghost use Prim.Native.Nat.{ℕ, _*_, _<_};
+ghost use Prim.Native.Nat.{ℕ, _*_, _≤_, _<_};
 ghost use lib.Dec.{eqb};
 ghost use lib.ListN.{getD};
 ghost use Rattle.ir.specs.Limits.{maxNodes};
@@ -178,6 +179,20 @@ pub fn load(kinds: &[u8; limit::NODES], words: &[u64; WORDS], n: usize) -> Optio
     }
     let at = WIDTH * n;
     OptionValue::Some(value_of(kind, words[at], words[at + 1], words[at + 2], words[at + 3]))
+}
+
+// Whether one of the kinds or actions of the first nodes is above a bound.
+pub fn any_above(bytes: &[u8; limit::NODES], nodes: usize, bound: u8) -> bool
+    requires { ⌜ nodes ≤ maxNodes ⌝ }
+    ensures { λ r. ⌜ (r ≡ false → (m : ℕ) → m < nodes → getD (now (bytes .entry)) m 0 ≤ bound) ⌝ }
+{
+    let mut found = false;
+    let mut node: usize = 0;
+    while node < nodes {
+        found = found | (bound < bytes[node]);
+        node = node + 1;
+    }
+    found
 }
 
 // Clears the arrays: nothing is known and nothing planned.

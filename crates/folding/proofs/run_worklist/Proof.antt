@@ -33,8 +33,8 @@ enum-told c = search needs
 returns : tie.Need-returns
 returns c = never-full-at (c .before .before .before .before .before .before .before .before .before .before .before .before .before .before .pre) (subst (λ (w : Worked). Ran (graphOf (now (c .before .before .before .before .before .before .before .before .before .before .before .before .before .before .args .input))) (c .before .before .run .last .1 .1 .1 .1 .1 .1 .1 .1 .1 .0) (c .before .before .run .last .1 .1 .1 .1 .1 .1 .1 .1 .1 .1 .0) (c .before .before .run .last .1 .1 .1 .1 .1 .1 .1 .1 .1 .1 .1 .0) (c .before .before .run .last .1 .1 .1 .1 .1 .1 .1 .1 .1 .1 .1 .1 .0) w) (c .enum-told .given .1) (c .before .before .run .ensures))
 
-rewrite-graph-requires : tie.Need-rewrite-graph-requires
-rewrite-graph-requires c κs =
+answer-graph-requires : tie.Need-answer-graph-requires
+answer-graph-requires c κs =
     let F = subst (λ (w : Worked). Ran (graphOf (now (c .before .before .before .before .before .before .before .before .before .before .before .before .before .before .before .before .before .before .before .before .args .input))) (c .before .before .before .before .before .before .before .before .run .last .1 .1 .1 .1 .1 .1 .1 .1 .1 .0) (c .before .before .before .before .before .before .before .before .run .last .1 .1 .1 .1 .1 .1 .1 .1 .1 .1 .0) (c .before .before .before .before .before .before .before .before .run .last .1 .1 .1 .1 .1 .1 .1 .1 .1 .1 .1 .0) (c .before .before .before .before .before .before .before .before .run .last .1 .1 .1 .1 .1 .1 .1 .1 .1 .1 .1 .1 .0) w) (c .before .before .before .before .before .before .pops .given .1) (c .before .before .before .before .before .before .before .before .run .ensures) in
     record { accepts = c .before .before .before .before .before .before .before .before .before .before .before .before .before .before .before .before .before .before .before .before .pre .accepts; holds = F .holds; pops-are = F .pops-are }
 
@@ -42,7 +42,7 @@ same-length : tie.Need-same-length
 same-length c = search needs
 
 returns-2 : tie.Need-returns-2
-returns-2 c = c .before .before .rewrite-graph .ensures
+returns-2 c = c .before .before .answer-graph .ensures
 
 pub run-worklist-spec : {M : Type 1} → statement M
-run-worklist-spec = tie.close (tie.spec rows-requires index-rows-requires run-requires enum-known-pops enum-told returns rewrite-graph-requires same-length returns-2)
+run-worklist-spec = tie.close (tie.spec rows-requires index-rows-requires run-requires enum-known-pops enum-told returns answer-graph-requires same-length returns-2)

@@ -1,11 +1,11 @@
--- `emit::copy_wires` meets its contract.
+-- `emit::kept::copy_wires` meets its contract.
 use Prim.Native.Nat.{_-_}
 use native.Mathlib.Omega.{arith}
 use lib.ListN.{length}
 use borrow.Author.Needs.{needs}
 use Rattle.emit.proofs.Copying.{Copying, copy-start, copy-long, copy-next, copy-end}
-use Rattle.emit.proofs.copy_wires.Statement.{statement}
-use Rattle.emit.proofs.copy_wires.Tie as tie
+use Rattle.emit.proofs.kept.copy_wires.Statement.{statement}
+use Rattle.emit.proofs.kept.copy_wires.Tie as tie
 
 abbrev Inv-loop : tie.InvT-loop
 Inv-loop wires out₀ at i₀ out i = Copying wires out₀ out at i

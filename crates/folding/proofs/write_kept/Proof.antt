@@ -1,0 +1,81 @@
+-- `folding::write_kept` meets its contract.
+use mathlib.Core.Path.{_≡_, refl}
+use Prim.Native.Nat.{ℕ, _-_, _*_, _≤_}
+use native.Mathlib.Omega.{arith}
+use lib.ListN.{take, drop}
+use borrow.Author.Needs.{needs}
+use denote.Ref.{now}
+use Rattle.encoding.proofs.Splices.{written-length}
+use Rattle.records.specs.Access.{wiresOffset}
+use Rattle.records.proofs.Laid.{few-nodes, inside}
+use Rattle.model.specs.Inputs.{size}
+use Rattle.folding.proofs.Stages.{nodes-are, bounded-at, section-at, section-wires, section-records, wires-are, kept-folded}
+use Rattle.folding.proofs.write_kept.Statement.{statement}
+use Rattle.folding.proofs.write_kept.Tie as tie
+
+wires-offset-requires : tie.Need-wires-offset-requires
+wires-offset-requires c κs = c .before .before .pre .worked .accepts
+
+properties-offset-requires : tie.Need-properties-offset-requires
+properties-offset-requires c κs = c .before .before .before .pre .worked .accepts
+
+sub-wires : tie.Need-sub-wires
+sub-wires c = omega (arith, c .properties-offset .ensures, c .before .wires-offset .ensures)
+
+part-wires-start : tie.Need-part-wires-start
+part-wires-start c = omega (arith, c .properties-offset .ensures, c .before .wires-offset .ensures)
+
+part-wires-end : tie.Need-part-wires-end
+part-wires-end c = omega (arith, c .properties-offset .ensures, inside _ _ (c .before .before .before .before .pre .worked .accepts))
+
+-- what the code takes is where the wire records stand
+section : (c : tie.After-properties-offset) → take (c .properties-offset .result - c .before .wires-offset .result) (drop (c .before .wires-offset .result) (now (c .before .before .before .before .args .input))) ≡ take (7 * c .before .before .before .before .args .counts .wires) (drop (wiresOffset (c .before .before .before .before .args .counts)) (now (c .before .before .before .before .args .input)))
+section c = section-at _ (c .before .before .before .before .args .counts) (c .before .wires-offset .ensures) (c .properties-offset .ensures)
+
+few : (c : tie.Start) → c .args .counts .nodes ≤ 1024
+unfolding size
+few c = omega (arith, nodes-are _ _ (c .pre .worked .accepts), few-nodes (now (c .args .input)))
+
+write-known-records-requires : tie.Need-write-known-records-requires
+write-known-records-requires c κs = (few (c .before .before .before .before .before .before), omega (arith, c .before .before .before .before .before .before .pre .room))
+
+write-fates-requires : tie.Need-write-fates-requires
+write-fates-requires c κs =
+    let w = c .before .before .before .write-known-records .ensures in
+    (few (c .before .before .before .before .before .before .before .before .before .before), omega (arith, c .before .before .before .before .before .before .before .before .before .before .pre .room, w .past, written-length w (omega (arith, c .before .before .before .before .before .before .before .before .before .before .pre .room))))
+
+write-wires-requires : tie.Need-write-wires-requires
+write-wires-requires c κs =
+    let K = c .before .before .before .before .before .before .before .before .before .before .before .before .before .before .pre in
+    let f = section-wires _ _ (K .worked .accepts) (section (c .before .before .before .before .before .before .before .before .before .before)) in
+    let w = c .before .before .before .before .before .before .before .write-known-records .ensures in
+    let k = written-length w (omega (arith, K .room)) in
+    let v = c .before .before .before .write-fates .ensures in
+    record {
+      records = section-records _ _ (K .worked .accepts) (section (c .before .before .before .before .before .before .before .before .before .before)) (λ i. omega (arith, c .before .before .before .before .before .before .before .before .before .before .before .before .before .shared-slice-known .given i));
+      bounded = bounded-at _ _ (K .worked .accepts) f;
+      room = omega (arith, K .room, wires-are K f, w .past, k, v .past, written-length v (omega (arith, K .room, w .past, k)));
+    }
+
+same-length : tie.Need-same-length
+same-length c = search needs
+
+returns : tie.Need-returns
+returns c =
+    let K = c .before .before .before .before .before .before .before .before .before .before .before .before .before .before .before .before .before .pre in
+    kept-folded K (section-wires _ _ (K .worked .accepts) (section (c .before .before .before .before .before .before .before .before .before .before .before .before .before))) refl (c .before .before .before .before .before .before .before .before .before .before .write-known-records .ensures) (c .before .before .before .before .before .before .write-fates .ensures) (c .before .before .write-wires .ensures)
+
+pub write-kept-spec : {M : Type 1} → statement M
+write-kept-spec =
+    tie.close
+    (tie.spec
+    wires-offset-requires
+    properties-offset-requires
+    sub-wires
+    part-wires-start
+    part-wires-end
+    write-known-records-requires
+    write-fates-requires
+    write-wires-requires
+    same-length
+    returns)
