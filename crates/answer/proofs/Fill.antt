@@ -63,6 +63,14 @@ sizes-start f h = refl
 pub sizes-next : (f h : ℕ → List ℕ) (i sum a b : ℕ) → sum ≡ length (each f (upTo i)) + length (each h (upTo i)) → a ≡ length (f i) → b ≡ length (h i) → sum + (a + b) ≡ length (each f (upTo (i + 1))) + length (each h (upTo (i + 1)))
 sizes-next f h i sum a b e p q = omega (arith, each-size f i, each-size h i)
 
+pub sizes-none : (f h : ℕ → List ℕ) → length (each f (upTo 0)) + length (each h (upTo 0)) ≤ 0
+unfolding upTo each
+sizes-none f h = omega arith
+
+-- the two records of number i are at most b longer than 23, and those below it in all at most `more` longer than 23 each
+pub sizes-more : (f h : ℕ → List ℕ) (i more b : ℕ) → length (each f (upTo i)) + length (each h (upTo i)) ≤ 23 * i + more → length (f i) + length (h i) ≤ 23 + b → length (each f (upTo (i + 1))) + length (each h (upTo (i + 1))) ≤ 23 * (i + 1) + (more + b)
+sizes-more f h i more b p q = omega (arith, each-size f i, each-size h i)
+
 pub sizes-most : (f h : ℕ → List ℕ) (n : ℕ) → ((i : ℕ) → i < n → length (f i) + length (h i) ≤ 23) → length (each f (upTo n)) + length (each h (upTo n)) ≤ 23 * n
 unfolding upTo each
 sizes-most f h zero b = omega arith

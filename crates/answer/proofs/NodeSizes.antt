@@ -1,5 +1,5 @@
 -- How long the records of a node are, by the kind of its value and its action.
-use Prim.Native.Nat.{ℕ, suc, _+_, _-_, _≤_, _<_}
+use Prim.Native.Nat.{ℕ, suc, _+_, _-_, _*_, _≤_, _<_}
 use native.Mathlib.Omega.{arith}
 use native.Mathlib.Decide.{ℕ-discrete}
 use mathlib.Core.Path.{_≡_, refl, sym, ap, _∙_, subst}
@@ -7,15 +7,16 @@ use mathlib.Core.Bool.{Bool, true, false, cond}
 use mathlib.Core.Option.{Option, none, some}
 use mathlib.Core.List.{List, [], _∷_, _++_}
 use mathlib.Core.Logic.{_⊎_, inl, inr, _≢_}
-use lib.Dec.{eqb}
+use lib.Dec.{eqb, ltb}
 use lib.ListN.{length, length-append, getD}
-use borrow.Author.Tests.{ne-eqb}
+use borrow.Author.Tests.{ne-eqb, ltb-true, ltb-false}
 use Rattle.ir.specs.Kinds.{bodyOf}
 use Rattle.ir.specs.Ports.{valuePort}
 use Rattle.encoding.specs.Numbers.{bytesOf}
 use Rattle.encoding.specs.Values.{kindOf, valueBytes, headBytes, propertyBytes}
 use Rattle.value.specs.declared.Value.{Value}
 use Rattle.model.specs.Answer.{knownBytes}
+use Rattle.model.proofs.Maps.{by-bool}
 use Rattle.state.specs.Held.{isKind, heldValue, held}
 use Rattle.answer.specs.Nodes.{literalFate, fateBy}
 
@@ -100,6 +101,19 @@ module _ (i kind a b c d : ℕ) where
       go (yes e) q = omega (arith, known-none e, fate-unknown action e)
       go (no e) (yes q) = let h = some-kind kind k e in omega (arith, small (h .0), known-some (h .0) (h .1), fate-literal action q (h .0) (h .1))
       go (no e) (no q) = let h = some-kind kind k e in omega (arith, small (h .0), known-some (h .0) (h .1), fate-other action q)
+
+  -- .. and with any value
+  pub most-sizes : (action : ℕ) → isKind kind → length (knownBytes i (held kind a b c d)) + length (fateBy i action (held kind a b c d)) ≤ 23 + 48 * cond (ltb 5 kind) 1 0
+  most-sizes action k = by-bool (ltb 5 kind) (λ e. rw e (composite (ltb-true 5 kind e) (ℕ-discrete action 1))) (λ e. rw e (scalar-sizes action k (ltb-false 5 kind e)))
+    where
+      composite : 5 < kind → Dec (action ≡ 1) → length (knownBytes i (held kind a b c d)) + length (fateBy i action (held kind a b c d)) ≤ 71
+      composite l q =
+          let h = some-kind kind k (λ e. omega (arith, l, e)) in
+          go (h .0) (h .1) q
+        where
+          go : 3 ≤ kind → kind ≤ 9 → Dec (action ≡ 1) → length (knownBytes i (held kind a b c d)) + length (fateBy i action (held kind a b c d)) ≤ 71
+          go m n (yes q) = omega (arith, body-small kind m n, known-some m n, fate-literal action q m n)
+          go m n (no q) = omega (arith, body-small kind m n, known-some m n, fate-other action q)
 
 -- ---- what is written of a node
 

@@ -8,12 +8,12 @@ use state::WORDS;
 use value::OptionValue;
 use value::Value;
 ghost use mathlib.Core.Path.{_≡_};
-ghost use mathlib.Core.Bool.{true, cond};
+ghost use mathlib.Core.Bool.{cond};
 ghost use mathlib.Core.Option.{some};
 ghost use mathlib.Core.List.{List, _++_};
 ghost use mathlib.Core.Logic.{_⊎_};
 ghost use Prim.Native.Nat.{ℕ, _+_, _*_, _≤_, _<_};
-ghost use lib.Dec.{eqb};
+ghost use lib.Dec.{eqb, ltb, leb};
 ghost use lib.ListN.{length, getD};
 ghost use Rattle.ir.specs.Limits.{maxNodes};
 ghost use Rattle.encoding.specs.Numbers.{Written};
@@ -32,8 +32,10 @@ const FATE_LITERAL: u8 = 0x0F;
 // How long a record of a fate is without a value.
 const FATE_SIZE: usize = 3;
 
-// How long the two records of a node are at most where its value is a scalar.
+// How long the two records of a node are at most where its value is a scalar, and how much longer where it is a composite.
 const SCALAR_SIZES: usize = 23;
+
+const COMPOSITE_MORE: usize = 48;
 
 // ---- sizes
 
@@ -62,9 +64,9 @@ fn fate_size(action: u8, kind: u8) -> usize
 }
 
 // How many bytes the records of the first `nodes` nodes have.
-pub fn nodes_size(kinds: &[u8; limit::NODES], actions: &[u8; limit::NODES], nodes: usize) -> usize
+fn nodes_size(kinds: &[u8; limit::NODES], actions: &[u8; limit::NODES], nodes: usize) -> usize
     requires { ⌜ (nodes ≤ maxNodes) × ((m : ℕ) → isKind (getD (now kinds) m 0)) ⌝ }
-    ensures { λ r. ⌜ ((words : List ℕ) → r ≡ length (knownRecords (now (kinds .entry)) words nodes) + length (fateRecords (now (kinds .entry)) words (now (actions .entry)) nodes)) × (r ≤ 71 * nodes) ⌝ }
+    ensures { λ r. ⌜ ((words : List ℕ) → r ≡ length (knownRecords (now (kinds .entry)) words nodes) + length (fateRecords (now (kinds .entry)) words (now (actions .entry)) nodes)) ⌝ }
 {
     let mut sum = 0;
     let mut i = 0;
@@ -75,7 +77,39 @@ pub fn nodes_size(kinds: &[u8; limit::NODES], actions: &[u8; limit::NODES], node
     sum
 }
 
-// Whether the records of the first `nodes` nodes fit so much room. With scalars alone a node's two records have at most 12 and 11 bytes.
+// 1 for the kind of a composite, and else 0.
+fn composite(kind: u8) -> usize
+    ensures { λ r. ⌜ (r ≡ cond (ltb 5 kind) 1 0) × (r ≤ 1) ⌝ }
+{
+    if kind::BOOL < kind { 1 } else { 0 }
+}
+
+// How many of the first `nodes` nodes have a composite.
+fn count_composites(kinds: &[u8; limit::NODES], nodes: usize) -> usize
+    requires { ⌜ (nodes ≤ maxNodes) × ((m : ℕ) → isKind (getD (now kinds) m 0)) ⌝ }
+    ensures { λ r. ⌜ ((words actions : List ℕ) → length (knownRecords (now (kinds .entry)) words nodes) + length (fateRecords (now (kinds .entry)) words actions nodes) ≤ 23 * nodes + 48 * r) × (r ≤ nodes) ⌝ }
+{
+    let mut count = 0;
+    let mut i = 0;
+    while i < nodes {
+        count = count + composite(kinds[i]);
+        i += 1;
+    }
+    count
+}
+
+// The same, asked first whether there is one.
+fn composites(kinds: &[u8; limit::NODES], nodes: usize) -> usize
+    requires { ⌜ (nodes ≤ maxNodes) × ((m : ℕ) → isKind (getD (now kinds) m 0)) ⌝ }
+    ensures { λ r. ⌜ ((words actions : List ℕ) → length (knownRecords (now (kinds .entry)) words nodes) + length (fateRecords (now (kinds .entry)) words actions nodes) ≤ 23 * nodes + 48 * r) × (r ≤ nodes) ⌝ }
+{
+    if state::any_above(kinds, nodes, kind::BOOL) {
+        return count_composites(kinds, nodes);
+    }
+    0
+}
+
+// Whether the records of the first `nodes` nodes fit so much room. They are measured only where a bound does not tell.
 pub fn nodes_fit(
     kinds: &[u8; limit::NODES],
     actions: &[u8; limit::NODES],
@@ -83,12 +117,10 @@ pub fn nodes_fit(
     room: usize,
 ) -> bool
     requires { ⌜ (nodes ≤ maxNodes) × ((m : ℕ) → isKind (getD (now kinds) m 0)) ⌝ }
-    ensures { λ r. ⌜ (r ≡ true → (words : List ℕ) → length (knownRecords (now (kinds .entry)) words nodes) + length (fateRecords (now (kinds .entry)) words (now (actions .entry)) nodes) ≤ room) ⌝ }
+    ensures { λ r. ⌜ ((words : List ℕ) → r ≡ leb (length (knownRecords (now (kinds .entry)) words nodes) + length (fateRecords (now (kinds .entry)) words (now (actions .entry)) nodes)) room) ⌝ }
 {
-    if SCALAR_SIZES * nodes <= room {
-        if !state::any_above(kinds, nodes, kind::BOOL) {
-            return true;
-        }
+    if SCALAR_SIZES * nodes + COMPOSITE_MORE * composites(kinds, nodes) <= room {
+        return true;
     }
     nodes_size(kinds, actions, nodes) <= room
 }
@@ -112,7 +144,7 @@ fn write_known(
 }
 
 // The known nodes in number order.
-pub fn write_known_records(
+fn write_known_records(
     kinds: &[u8; limit::NODES],
     words: &[u64; WORDS],
     nodes: usize,
@@ -172,7 +204,7 @@ fn write_fate(
 }
 
 // The fates in number order.
-pub fn write_fates(
+fn write_fates(
     kinds: &[u8; limit::NODES],
     words: &[u64; WORDS],
     actions: &[u8; limit::NODES],
@@ -190,4 +222,19 @@ pub fn write_fates(
         i += 1;
     }
     next
+}
+
+// The known values, then the fates, at the front of the buffer.
+pub fn write_nodes(
+    kinds: &[u8; limit::NODES],
+    words: &[u64; WORDS],
+    actions: &[u8; limit::NODES],
+    nodes: usize,
+    out: &mut [u8],
+) -> usize
+    requires { ⌜ (nodes ≤ maxNodes) × (length (knownRecords (now kinds) (now words) nodes) + length (fateRecords (now kinds) (now words) (now actions) nodes) ≤ length (now out)) ⌝ }
+    ensures { λ r. ⌜ Written (knownRecords (now (kinds .entry)) (now (words .entry)) nodes ++ fateRecords (now (kinds .entry)) (now (words .entry)) (now (actions .entry)) nodes) (now (out .entry)) (now (out .exit)) 0 r ⌝ }
+{
+    let fates = write_known_records(kinds, words, nodes, out, 0);
+    write_fates(kinds, words, actions, nodes, out, fates)
 }

@@ -72,6 +72,12 @@ refuse-decode {input} {before} {n} {p} e = go (decode input) refl
         let y : p ≡ r = cc in
         refuse (at-refusal input (length before) n p (q ∙ ap₂ refused (sym x) (sym y)))
 
+-- the records of the nodes leave the room that there was for more
+pub nodes-room : (kinds words actions : List ℕ) (n more : ℕ) {l m : List ℕ} {b : ℕ} → Written (knownRecords kinds words n ++ fateRecords kinds words actions n) l m 0 b → length (knownRecords kinds words n) + length (fateRecords kinds words actions n) + more ≤ length l → b + more ≤ length m
+nodes-room kinds words actions n more w h =
+    let e = length-append (knownRecords kinds words n) (fateRecords kinds words actions n) in
+    omega (arith, h, w .past, e, written-length w (omega (arith, h, e)))
+
 splice-start : (l bs : List ℕ) → splice l 0 bs ≡ bs ++ drop (length bs) l
 unfolding splice
 splice-start l bs = let e : 0 + length bs ≡ length bs = omega arith in ap (λ (k : ℕ). bs ++ drop k l) e
@@ -132,17 +138,14 @@ module _ {input : List ℕ} {c : Counts} {kinds words actions details : List ℕ
         }
 
     -- the answer
-    pub folded : {before one two three : List ℕ} {a b r : ℕ} → length (knownRecords kinds words (size h)) + length (fateRecords kinds words actions (size h)) + 7 * count ≤ length before
-        → Written (knownRecords kinds words (size h)) before one 0 a → Written (fateRecords kinds words actions (size h)) one two a b → Written (each wireBytes (orNil (rewriteWires (shapeOf (h .wires) actions details) (size h) (h .wires)))) two three b r
+    pub folded : {before two three : List ℕ} {b r : ℕ} → length (knownRecords kinds words (size h)) + length (fateRecords kinds words actions (size h)) + 7 * count ≤ length before
+        → Written (knownRecords kinds words (size h) ++ fateRecords kinds words actions (size h)) before two 0 b → Written (each wireBytes (orNil (rewriteWires (shapeOf (h .wires) actions details) (size h) (h .wires)))) two three b r
         → Answers input before three (Outcome.Folded r pops)
     unfolding numbersOf written
-    folded {before} {one} {two} {three} {a} {b} {r} m x y z =
-        let K = knownRecords kinds words (size h) in
-        let F = fateRecords kinds words actions (size h) in
+    folded {before} {two} {three} {b} {r} m y z =
         let T : List ℕ = each wireBytes ws in
         let z' : Written T two three b r = rw ws-is at z in
-        let xy = written-more x (omega (arith, m, length-append K F)) y in
-        let w = written-more xy (omega (arith, m, whole)) z' in
+        let w = written-more y (omega (arith, m, whole)) z' in
         let e : outcome input (length before) ≡ folds (bytesIn (size h) kinds words actions ws) (foldOf h .pops) = outcome-folds input (length before) h is-read kinds words actions details (W .holds) ws (C .ends) (omega (arith, exact)) (omega (arith, m, whole)) in
         record {
           result = rw e (ap₂ (λ (i j : ℕ). record { number = 0; place = 0; length = i; pops = j }) (w .past ∙ omega arith) (W .pops-are));
@@ -160,10 +163,10 @@ module _ {input : List ℕ} {c : Counts} {kinds words actions details : List ℕ
       pub wires-at : length (orNil (rewriteWires (shapeOf vs actions details) n vs)) ≡ count
       wires-at = rw (e, f) (ap length ws-is ∙ sym exact)
 
-      pub folded-at : {before one two three : List ℕ} {a b r : ℕ} → length (knownRecords kinds words n) + length (fateRecords kinds words actions n) + 7 * count ≤ length before
-          → Written (knownRecords kinds words n) before one 0 a → Written (fateRecords kinds words actions n) one two a b → Written (each wireBytes (orNil (rewriteWires (shapeOf vs actions details) n vs))) two three b r
+      pub folded-at : {before two three : List ℕ} {b r : ℕ} → length (knownRecords kinds words n) + length (fateRecords kinds words actions n) + 7 * count ≤ length before
+          → Written (knownRecords kinds words n ++ fateRecords kinds words actions n) before two 0 b → Written (each wireBytes (orNil (rewriteWires (shapeOf vs actions details) n vs))) two three b r
           → Answers input before three (Outcome.Folded r pops)
-      folded-at m x y z = folded (rw e at m) (rw e at x) (rw e at y) (rw (e, f) at z)
+      folded-at m y z = folded (rw e at m) (rw e at y) (rw (e, f) at z)
 
 -- ---- where neither a Select nor a Branch is planned
 
@@ -193,11 +196,11 @@ module _ {input : List ℕ} {c : Counts} {kinds words actions : List ℕ} {pops 
   stay : orNil (rewriteWires (shapeOf vs actions (K .details)) (c .nodes) vs) ≡ keptWires actions vs
   stay = rw (nodes-of, f) (ap orNil (wires-kept (graphOf input .wires) actions (K .details) (size (graphOf input)) shape low-at (graphOf input .wires)))
 
-  pub kept-folded : {before one two three : List ℕ} {a b r : ℕ} → length before ≡ size-of
-      → Written (knownRecords kinds words (c .nodes)) before one 0 a → Written (fateRecords kinds words actions (c .nodes)) one two a b → Written (each wireBytes (keptWires actions vs)) two three b r
+  pub kept-folded : {before two three : List ℕ} {b r : ℕ} → length before ≡ size-of
+      → Written (knownRecords kinds words (c .nodes) ++ fateRecords kinds words actions (c .nodes)) before two 0 b → Written (each wireBytes (keptWires actions vs)) two three b r
       → Answers input before three (Outcome.Folded r pops)
-  kept-folded {two = two} {three = three} {b = b} {r = r} e x y z =
-      folded-at (K .worked) tallied (omega (arith, few, few-wires)) (c .nodes) vs nodes-of f (omega (arith, K .room, few, wires-are, e)) x y (subst (λ (us : List Wire). Written (each wireBytes us) two three b r) (sym stay) z)
+  kept-folded {two = two} {three = three} {b = b} {r = r} e y z =
+      folded-at (K .worked) tallied (omega (arith, few, few-wires)) (c .nodes) vs nodes-of f (omega (arith, K .room, few, wires-are, e)) y (subst (λ (us : List Wire). Written (each wireBytes us) two three b r) (sym stay) z)
 
 -- ---- what each stage needs of the one before
 

@@ -13,8 +13,8 @@ use table::CELLS;
 use worklist::Worked;
 ghost use mathlib.Core.Path.{_≡_};
 ghost use mathlib.Core.List.{List};
-ghost use mathlib.Core.Bool.{true};
 ghost use Prim.Native.Nat.{ℕ, _+_, _*_, _≤_};
+ghost use lib.Dec.{leb};
 ghost use lib.ListN as ListN;
 ghost use lib.ListN.{length, getD, take};
 ghost use Rattle.ir.specs.Limits.{maxNodes, maxWires};
@@ -39,6 +39,24 @@ const ENDLESS: u8 = 9;
 const TOO_LONG: u8 = 10;
 
 const NO_PLACE: u8 = 11;
+
+// Whether a buffer of so much room holds the records of the nodes and `count` wires.
+fn holds(
+    kinds: &[u8; limit::NODES],
+    actions: &[u8; limit::NODES],
+    nodes: usize,
+    count: usize,
+    room: usize,
+) -> bool
+    requires { ⌜ (nodes ≤ maxNodes) × (count ≤ maxWires) × ((m : ℕ) → isKind (getD (now kinds) m 0)) ⌝ }
+    ensures { λ r. ⌜ ((words : List ℕ) → r ≡ leb (length (knownRecords (now (kinds .entry)) words nodes) + length (fateRecords (now (kinds .entry)) words (now (actions .entry)) nodes) + 7 * count) room) ⌝ }
+{
+    let wires = wire_records::SIZE * count;
+    if room < wires {
+        return false;
+    }
+    answer::nodes_fit(kinds, actions, nodes, room - wires)
+}
 
 // Question 11, and the answer. `count` is how many wires there are at the end, 4,097 for more than 4,096.
 fn write_answer(
@@ -66,16 +84,14 @@ fn write_answer(
         };
     }
     let nodes = counts.nodes;
-    let size = answer::nodes_size(kinds, actions, nodes) + wire_records::SIZE * count;
-    if out.len() < size {
+    if !holds(kinds, actions, nodes, count, out.len()) {
         return Outcome::Refused {
             number: TOO_LONG,
             place: 0,
         };
     }
     let wires = access::wires(input, counts);
-    let fates = answer::write_known_records(kinds, words, nodes, out, 0);
-    let past = answer::write_fates(kinds, words, actions, nodes, out, fates);
+    let past = answer::write_nodes(kinds, words, actions, nodes, out);
     let length = emit::write_wires(
         wires,
         nodes,
@@ -146,23 +162,6 @@ fn rewrite_graph(
     }
 }
 
-// Whether a buffer of so much room holds the records of the nodes and every wire of the input.
-fn holds_all(
-    counts: Counts,
-    kinds: &[u8; limit::NODES],
-    actions: &[u8; limit::NODES],
-    room: usize,
-) -> bool
-    requires { ⌜ (counts .nodes ≤ maxNodes) × (counts .wires ≤ maxWires) × ((m : ℕ) → isKind (getD (now kinds) m 0)) ⌝ }
-    ensures { λ r. ⌜ (r ≡ true → (words : List ℕ) → length (knownRecords (now (kinds .entry)) words (counts .nodes)) + length (fateRecords (now (kinds .entry)) words (now (actions .entry)) (counts .nodes)) + 7 * counts .wires ≤ room) ⌝ }
-{
-    let wires = wire_records::SIZE * counts.wires;
-    if room < wires {
-        return false;
-    }
-    answer::nodes_fit(kinds, actions, counts.nodes, room - wires)
-}
-
 // The answer where neither a Select nor a Branch is planned, into a buffer that holds every wire of the input.
 fn write_kept(
     input: &[u8],
@@ -180,10 +179,9 @@ fn write_kept(
     let from = access::wires_offset(input, counts);
     let to = access::properties_offset(input, counts);
     let wires = &input[from..to];
-    let fates = answer::write_known_records(kinds, words, nodes, out, 0);
-    let past = answer::write_fates(kinds, words, actions, nodes, out, fates);
-    let length = kept::write_wires(wires, nodes, actions, out, past);
-    Outcome::Folded { length, pops }
+    let past = answer::write_nodes(kinds, words, actions, nodes, out);
+    let end = kept::write_wires(wires, nodes, actions, out, past);
+    Outcome::Folded { length: end, pops }
 }
 
 // Questions 10 and 11, and the answer. Without a planned Select or Branch every wire's rewriting ends, and the wires only get fewer: they are counted
@@ -202,7 +200,7 @@ fn answer_graph(
     ensures { λ r. ⌜ Answers (now (input .entry)) (now (out .entry)) (now (out .exit)) r ⌝ }
 {
     if !state::any_above(actions, counts.nodes, state::BECOME_LITERAL) {
-        if holds_all(counts, kinds, actions, out.len()) {
+        if holds(kinds, actions, counts.nodes, counts.wires, out.len()) {
             return write_kept(input, counts, kinds, words, actions, pops, out);
         }
     }

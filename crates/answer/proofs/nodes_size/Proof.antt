@@ -63,7 +63,7 @@ loop-again c =
 returns : tie.Need-returns Inv-loop μ-loop
 returns c =
     let e : c .before .loop .i ≡ c .before .before .args .nodes = omega arith in
-    (λ words. rw e at (c .before .loop .inv .2 words), omega arith)
+    λ words. rw e at (c .before .loop .inv .2 words)
 
 pub nodes-size-spec : {M : Type 1} → statement M
 nodes-size-spec =

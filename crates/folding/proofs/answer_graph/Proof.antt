@@ -1,9 +1,9 @@
 -- `folding::answer_graph` meets its contract.
 use Prim.Native.Nat.{_≤_}
 use native.Mathlib.Omega.{arith}
-use mathlib.Core.Path.{ap, refl}
+use mathlib.Core.Path.{sym, ap, _∙_}
 use borrow.Author.Needs.{needs}
-use borrow.Author.Tests.{not-true}
+use borrow.Author.Tests.{leb-true, not-true}
 use denote.Ref.{now}
 use Rattle.graph.specs.declared.Counts.{Counts}
 use Rattle.model.specs.Inputs.{size}
@@ -19,8 +19,8 @@ few c = omega (arith, nodes-are _ _ (c .pre .accepts), few-nodes (now (c .args .
 any-above-requires : tie.Need-any-above-requires
 any-above-requires c κs = few (c .before .before)
 
-holds-all-requires : tie.Need-holds-all-requires
-holds-all-requires c κs = (few (c .before .before .before .before), omega (arith, ap (λ (d : Counts). d .wires) (counted _ _ (c .before .before .before .before .pre .accepts)), bounded (now (c .before .before .before .before .args .input)) .few-wires), c .before .before .before .before .pre .holds .kinds-listed)
+holds-requires : tie.Need-holds-requires
+holds-requires c κs = (few (c .before .before .before .before), omega (arith, ap (λ (d : Counts). d .wires) (counted _ _ (c .before .before .before .before .pre .accepts)), bounded (now (c .before .before .before .before .args .input)) .few-wires), c .before .before .before .before .pre .holds .kinds-listed)
 
 write-kept-requires : tie.Need-write-kept-requires
 write-kept-requires c κs =
@@ -28,7 +28,7 @@ write-kept-requires c κs =
       details = now (c .before .before .before .before .before .before .before .args .details);
       worked = c .before .before .before .before .before .before .before .pre;
       low = c .before .before .before .before .any-above .ensures (not-true _ (c .before .before .before .if1 .taken));
-      room = c .before .before .holds-all .ensures (c .before .if2 .taken) (now (c .before .before .before .before .before .before .before .args .words));
+      room = leb-true _ _ (sym (c .before .before .holds .ensures (now (c .before .before .before .before .before .before .before .args .words))) ∙ c .before .if2 .taken);
     }
 
 same-length : tie.Need-same-length
@@ -51,7 +51,7 @@ answer-graph-spec =
     tie.close
     (tie.spec
     any-above-requires
-    holds-all-requires
+    holds-requires
     write-kept-requires
     same-length
     returns

@@ -5,11 +5,10 @@ use native.Mathlib.Omega.{arith}
 use lib.ListN.{take, drop}
 use borrow.Author.Needs.{needs}
 use denote.Ref.{now}
-use Rattle.encoding.proofs.Splices.{written-length}
 use Rattle.records.specs.Access.{wiresOffset}
 use Rattle.records.proofs.Laid.{few-nodes, inside}
 use Rattle.model.specs.Inputs.{size}
-use Rattle.folding.proofs.Stages.{nodes-are, bounded-at, section-at, section-wires, section-records, wires-are, kept-folded}
+use Rattle.folding.proofs.Stages.{nodes-are, nodes-room, bounded-at, section-at, section-wires, section-records, wires-are, kept-folded}
 use Rattle.folding.proofs.write_kept.Statement.{statement}
 use Rattle.folding.proofs.write_kept.Tie as tie
 
@@ -36,25 +35,19 @@ few : (c : tie.Start) → c .args .counts .nodes ≤ 1024
 unfolding size
 few c = omega (arith, nodes-are _ _ (c .pre .worked .accepts), few-nodes (now (c .args .input)))
 
-write-known-records-requires : tie.Need-write-known-records-requires
-write-known-records-requires c κs = (few (c .before .before .before .before .before .before), omega (arith, c .before .before .before .before .before .before .pre .room))
-
-write-fates-requires : tie.Need-write-fates-requires
-write-fates-requires c κs =
-    let w = c .before .before .before .write-known-records .ensures in
-    (few (c .before .before .before .before .before .before .before .before .before .before), omega (arith, c .before .before .before .before .before .before .before .before .before .before .pre .room, w .past, written-length w (omega (arith, c .before .before .before .before .before .before .before .before .before .before .pre .room))))
+write-nodes-requires : tie.Need-write-nodes-requires
+write-nodes-requires c κs = (few (c .before .before .before .before .before .before), omega (arith, c .before .before .before .before .before .before .pre .room))
 
 write-wires-requires : tie.Need-write-wires-requires
 write-wires-requires c κs =
-    let K = c .before .before .before .before .before .before .before .before .before .before .before .before .before .before .pre in
-    let f = section-wires _ _ (K .worked .accepts) (section (c .before .before .before .before .before .before .before .before .before .before)) in
-    let w = c .before .before .before .before .before .before .before .write-known-records .ensures in
-    let k = written-length w (omega (arith, K .room)) in
-    let v = c .before .before .before .write-fates .ensures in
+    let K = c .before .before .before .before .before .before .before .before .before .before .pre in
+    let f = section-wires _ _ (K .worked .accepts) (section (c .before .before .before .before .before .before)) in
+    let a = c .before .before .before .before .before .before .before .before .before .before .args in
+    let w = nodes-room (now (a .kinds)) (now (a .words)) (now (a .actions)) (a .counts .nodes) (7 * a .counts .wires) (c .before .before .before .write-nodes .ensures) (K .room) in
     record {
-      records = section-records _ _ (K .worked .accepts) (section (c .before .before .before .before .before .before .before .before .before .before)) (λ i. omega (arith, c .before .before .before .before .before .before .before .before .before .before .before .before .before .shared-slice-known .given i));
+      records = section-records _ _ (K .worked .accepts) (section (c .before .before .before .before .before .before)) (λ i. omega (arith, c .before .before .before .before .before .before .before .before .before .shared-slice-known .given i));
       bounded = bounded-at _ _ (K .worked .accepts) f;
-      room = omega (arith, K .room, wires-are K f, w .past, k, v .past, written-length v (omega (arith, K .room, w .past, k)));
+      room = omega (arith, w, wires-are K f);
     }
 
 same-length : tie.Need-same-length
@@ -62,8 +55,8 @@ same-length c = search needs
 
 returns : tie.Need-returns
 returns c =
-    let K = c .before .before .before .before .before .before .before .before .before .before .before .before .before .before .before .before .before .pre in
-    kept-folded K (section-wires _ _ (K .worked .accepts) (section (c .before .before .before .before .before .before .before .before .before .before .before .before .before))) refl (c .before .before .before .before .before .before .before .before .before .before .write-known-records .ensures) (c .before .before .before .before .before .before .write-fates .ensures) (c .before .before .write-wires .ensures)
+    let K = c .before .before .before .before .before .before .before .before .before .before .before .before .before .pre in
+    kept-folded K (section-wires _ _ (K .worked .accepts) (section (c .before .before .before .before .before .before .before .before .before))) refl (c .before .before .before .before .before .before .write-nodes .ensures) (c .before .before .write-wires .ensures)
 
 pub write-kept-spec : {M : Type 1} → statement M
 write-kept-spec =
@@ -74,8 +67,7 @@ write-kept-spec =
     sub-wires
     part-wires-start
     part-wires-end
-    write-known-records-requires
-    write-fates-requires
+    write-nodes-requires
     write-wires-requires
     same-length
     returns)
