@@ -6,7 +6,7 @@ use lib.ListN.{length, getD}
 use lib.Dec.{ltb, leb, eqb}
 use Rattle.ir.specs.declared.Folding.{Folding}
 use Rattle.ir.specs.declared.Folding.the-variants.{Never, Literal, Microchip, Select, Branch, Unary, Binary, Ternary}
-use Rattle.ir.specs.Ports.{output, inputA, inputB, thirdInput, bSelectB, bCond, rerInput}
+use Rattle.ir.specs.Ports.{inputA, inputB, thirdInput, bSelectB, bCond, rerInput}
 
 -- how each class folds, by its number. Row by row: any other, Literal, the two Microchips, Select, Branch; Equal to GreaterOrEqual;
 -- logical AND, OR, XOR, NOT, NAND, NOR; Add to Modulo; Abs, Sign, Negate, Min, Max, Clamp, ModuloFloored; Round, Floor, Ceil;
@@ -45,10 +45,6 @@ inputPorts Ternary = inputA ∷ inputB ∷ thirdInput ∷ []
 
 abbrev pub inputCount : Folding → ℕ
 inputCount f = length (inputPorts f)
-
--- the port of an input; past the last, Output, which is no input
-abbrev pub inputPort : Folding → ℕ → ℕ
-inputPort f i = getD (inputPorts f) i output
 
 -- "Rows are for 4 to 41"
 abbrev pub hasRows : Folding → Bool

@@ -1,9 +1,8 @@
 // The classes of nodes: how each folds, and its inputs.
 use crate::Folding;
-use crate::port;
 use crate::wide;
 ghost use mathlib.Core.Path.{_≡_};
-ghost use Rattle.ir.specs.Classes.{foldingOf, inputCount, inputPort, hasRows, isClass, isUnary, isAnnihilator};
+ghost use Rattle.ir.specs.Classes.{foldingOf, inputCount, hasRows, isClass, isUnary, isAnnihilator};
 ghost use Prim.Native.Nat.{_<_};
 
 pub const COUNT: usize = 42;
@@ -152,35 +151,6 @@ pub fn input_count(folding: Folding) -> usize
         Folding::Unary => 1,
         Folding::Binary => 2,
         Folding::Ternary => 3,
-    }
-}
-
-fn first_port(folding: Folding) -> u8
-    ensures { λ r. ⌜ r ≡ inputPort folding 0 ⌝ }
-{
-    match folding {
-        Folding::Never => port::OUTPUT,
-        Folding::Literal => port::OUTPUT,
-        Folding::Microchip => port::RER_INPUT,
-        Folding::Select => port::B_SELECT_B,
-        Folding::Branch => port::B_COND,
-        Folding::Unary => port::INPUT_A,
-        Folding::Binary => port::INPUT_A,
-        Folding::Ternary => port::INPUT_A,
-    }
-}
-
-// The port of an input, or Output past the last.
-pub fn input_port(folding: Folding, i: usize) -> u8
-    ensures { λ r. ⌜ r ≡ inputPort folding i ⌝ }
-{
-    if input_count(folding) <= i {
-        return port::OUTPUT;
-    }
-    match i {
-        0 => first_port(folding),
-        1 => port::INPUT_B,
-        _ => port::THIRD_INPUT,
     }
 }
 

@@ -21,7 +21,5 @@ pub const THIRD_INPUT: u8 = 9;
 
 pub const VALUE: u8 = 10;
 
-// How many ports there are, and how many a wire may have at an end.
+// How many ports there are.
 pub const COUNT: usize = 11;
-
-pub const WIRE_COUNT: usize = 10;

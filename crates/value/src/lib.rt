@@ -1,6 +1,6 @@
 // What wires carry, what a gate's input has, and what a gate gives.
 ghost use mathlib.Core.Path.{_≡_};
-ghost use Rattle.value.specs.Variants.{variantOf, inVariant};
+ghost use Rattle.value.specs.Variants.{variantOf};
 use ir::variant;
 
 pub enum Value {
@@ -50,15 +50,5 @@ pub fn variant_of(v: Value) -> u8
             b: _,
             a: _,
         } => variant::COLOR,
-    }
-}
-
-// The variant that a row of the table names for an input.
-pub fn in_variant(a: Operand) -> u8
-    ensures { λ r. ⌜ r ≡ inVariant a ⌝ }
-{
-    match a {
-        Operand::Unwired => variant::UNWIRED,
-        Operand::Known(v) => variant_of(v),
     }
 }
