@@ -5,9 +5,8 @@ use native.Mathlib.Decide.{le-ind}
 use native.Mathlib.Numerals.{add-one}
 use mathlib.Core.Path.{_≡_, refl, sym, ap, _∙_}
 use mathlib.Core.List.{List, [], _∷_, _++_, append-assoc, append-nil}
-use lib.ListN.{length, length-append, drop}
-use lib.Seq.{take-append-seam, take-at}
-use Rattle.encoding.specs.Numbers.{splice, Written}
+use lib.ListN.{length, length-append}
+use Rattle.encoding.specs.Numbers.{Written}
 use Rattle.encoding.proofs.Splices.{written-length, written-more, stored}
 use Rattle.model.specs.Maps.{upTo}
 use Rattle.model.specs.Answer.{each}

@@ -1,14 +1,14 @@
 -- How long the records of a node are, by the kind of its value and its action.
-use Prim.Native.Nat.{ℕ, suc, _+_, _-_, _*_, _≤_, _<_}
+use Prim.Native.Nat.{ℕ, _+_, _*_, _≤_, _<_}
 use native.Mathlib.Omega.{arith}
 use native.Mathlib.Decide.{ℕ-discrete}
-use mathlib.Core.Path.{_≡_, refl, sym, ap, _∙_, subst}
+use mathlib.Core.Path.{_≡_, refl, sym, subst}
 use mathlib.Core.Bool.{Bool, true, false, cond}
 use mathlib.Core.Option.{Option, none, some}
-use mathlib.Core.List.{List, [], _∷_, _++_}
-use mathlib.Core.Logic.{_⊎_, inl, inr, _≢_}
+use mathlib.Core.List.{[]}
+use mathlib.Core.Logic.{inl, inr, _≢_}
 use lib.Dec.{eqb, ltb}
-use lib.ListN.{length, length-append, getD}
+use lib.ListN.{length}
 use borrow.Author.Tests.{ne-eqb, ltb-true, ltb-false}
 use Rattle.ir.specs.Kinds.{bodyOf}
 use Rattle.ir.specs.Ports.{valuePort}

@@ -1,15 +1,13 @@
 -- The records of known nodes and of fates, by what the arrays hold.
-use Prim.Native.Nat.{ℕ, _+_, _≤_}
-use mathlib.Core.Path.{_≡_}
+use Prim.Native.Nat.{ℕ, _+_}
 use mathlib.Core.Bool.{cond}
 use mathlib.Core.Option.{Option, none, some}
 use mathlib.Core.List.{List, _++_}
-use mathlib.Core.Logic.{_⊎_}
 use lib.Dec.{eqb}
 use lib.ListN.{getD}
 use Rattle.value.specs.declared.Value.{Value}
 use Rattle.encoding.specs.Values.{kindOf, valueBytes, headBytes}
-use Rattle.model.specs.Maps.{Map, upTo}
+use Rattle.model.specs.Maps.{upTo}
 use Rattle.model.specs.Answer.{each, knownBytes}
 use Rattle.state.specs.Held.{knownOf}
 

@@ -1,6 +1,6 @@
 -- How the gates read an operand (document 01, "Corners of semantics.rs").
 use mathlib.Core.Bool.{Bool, true, false, not}
-use lib.IntN.{ℤ, pos}
+use lib.IntN.{pos}
 use lib.Ieee.{Float, binary64, ofBits, ne}
 use Rattle.ieee.specs.Finite.{sanitizeOf}
 use Rattle.whole.specs.Compare.{eqZ}

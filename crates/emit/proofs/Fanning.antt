@@ -1,10 +1,10 @@
 -- The writing of the wires to the targets that one wire leads to.
-use mathlib.Core.Path.{_≡_, refl, sym, ap, ap₂, _∙_, subst}
-use mathlib.Core.List.{List, [], _∷_, _++_, append-assoc, append-nil, map}
-use Prim.Native.Nat.{ℕ, zero, suc, _+_, _-_, _*_, _≤_, _<_}
+use mathlib.Core.Path.{_≡_, refl, sym, ap, _∙_}
+use mathlib.Core.List.{List, [], _∷_, _++_, append-assoc, append-nil}
+use Prim.Native.Nat.{ℕ, suc, _+_, _-_, _*_, _≤_, _<_}
 use native.Mathlib.Omega.{arith}
 use native.Mathlib.Decide.{ℕ-discrete}
-use lib.ListN.{length, getD, set, length-append, length-set}
+use lib.ListN.{length, getD, length-append, length-set}
 use Rattle.ir.specs.Limits.{maxWires}
 use Rattle.ir.specs.declared.PortRef.{PortRef}
 use Rattle.ir.specs.declared.Wire.{Wire}
@@ -15,8 +15,8 @@ use Rattle.records.specs.Access.{noWire}
 use Rattle.model.specs.Answer.{each}
 use Rattle.state.specs.Planned.{shapeOf}
 use Rattle.answer.proofs.Fill.{each-append, written-none}
-use Rattle.emit.specs.Emit.{leadsTo, fan, Net, Stacked, Standing, Descended, Popable, Popped, Descends, Counts, Fans}
-use Rattle.emit.proofs.Stack.{Upward, upward}
+use Rattle.emit.specs.Emit.{leadsTo, fan, Net, Stacked, Standing, Descended, Popped, Counts, Fans}
+use Rattle.emit.proofs.Stack.{upward}
 
 pub wires-size : (ws : List Wire) → length (each wireBytes ws) ≡ 7 * length ws
 unfolding each bytesOf

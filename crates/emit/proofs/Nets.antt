@@ -1,32 +1,30 @@
 -- The chains of live wires that `rewrite` leaves are what the emission walks.
-use mathlib.Core.Path.{_≡_, refl, sym, ap, ap₂, _∙_, subst}
-use mathlib.Core.Bool.{Bool, true, false, cond, true≢false}
+use mathlib.Core.Path.{_≡_, refl, sym, ap, ap₂, _∙_}
+use mathlib.Core.Bool.{Bool, true, false}
 use mathlib.Core.Option.{Option, none, some}
 use mathlib.Core.List.{List, [], _∷_, _++_, map}
-use mathlib.Core.Logic.{_≢_}
-use Prim.Native.Nat.{ℕ, zero, suc, _+_, _≤_, _<_, min}
+use Prim.Native.Nat.{ℕ, zero, suc, _≤_, _<_}
 use native.Mathlib.Omega.{arith}
-use lib.Dec.{eqb, ltb}
+use lib.Dec.{ltb}
 use lib.ListN.{length, getD}
-use borrow.Author.Tests.{ltb-true, ltb-false, eq-eqb}
-use Rattle.ir.specs.Ports.{exec}
+use borrow.Author.Tests.{ltb-true, ltb-false}
 use Rattle.ir.specs.declared.PortRef.{PortRef}
 use Rattle.ir.specs.declared.Wire.{Wire}
-use Rattle.records.specs.Access.{noWire, Bounded}
-use Rattle.wire_index.specs.Chains.{Chain}
+use Rattle.records.specs.Access.{Bounded}
 use Rattle.model.specs.Maps.{Map, All, keep}
 use Rattle.model.specs.Inputs.{isPort}
-use Rattle.model.specs.Offer.{PlanAction, BecomeLiteral, ShortCircuit, Truncate}
+use Rattle.model.specs.Offer.{PlanAction}
 use Rattle.model.specs.Rewrite.{both, collect, arrive, reach}
 use Rattle.model.specs.TargetCounts.{cap, cappedLength}
 use Rattle.model.proofs.Maps.{none-some, by-bool}
 use Rattle.model.proofs.TargetCounts.{both-some, reach-more}
 use Rattle.state.specs.Planned.{targetsIn, shapeAt, shapeOf, Shaped}
-use Rattle.rewrite.specs.Counts.{noCount, entry, countIn, Counts}
+use Rattle.rewrite.specs.Counts.{entry, countIn}
 use Rattle.rewrite.specs.Taken.{takenWires}
 use Rattle.rewrite.specs.Live.{liveWires}
 use Rattle.rewrite.specs.Rewritable.{Rewritable}
-use Rattle.emit.specs.Emit.{orNil, leadsTo, Live, execOf, Expands, Net}
+use Rattle.rewrite.proofs.Totals.{entry-is}
+use Rattle.emit.specs.Emit.{orNil, leadsTo, Live, execOf, Net}
 
 collect-map : (f : PortRef → Option (List PortRef)) (us : List Wire) → collect f (map (λ w. w .target) us) ≡ collect (λ w. f (w .target)) us
 unfolding collect
@@ -55,24 +53,13 @@ all-some f P t h (u ∷ us) ys q =
 
 -- a count that is listed, beside what is reached
 pub entry-zero : (c : ℕ) (xs : List PortRef) → entry c ≡ cappedLength (some xs) → ltb 0 c ≡ false → xs ≡ []
-unfolding entry cappedLength cap
-entry-zero c xs e h = go (ltb c noCount) refl e
-  where
-    nil : (xs : List PortRef) → length xs ≡ 0 → xs ≡ []
-    nil [] z = refl
-    nil (x ∷ xs) z = absurd (omega arith)
+unfolding cappedLength cap
+entry-zero c [] e h = refl
+entry-zero c (x ∷ xs) e h = absurd (omega (arith, ltb-false 0 c h, entry-is c _ e .0))
 
-    go : (b : Bool) → ltb c noCount ≡ b → cond b (some c) none ≡ some (min (length xs) 4097) → xs ≡ []
-    go true q e = let z : c ≡ min (length xs) 4097 = cc in nil xs (omega (arith, ltb-false 0 c h))
-    go false q e = none-some _ e
-
-pub entry-some : (c : ℕ) (xs : List PortRef) → entry c ≡ cappedLength (some xs) → ltb 0 c ≡ true → 0 < length xs
-unfolding entry cappedLength cap
-entry-some c xs e h = go (ltb c noCount) refl e
-  where
-    go : (b : Bool) → ltb c noCount ≡ b → cond b (some c) none ≡ some (min (length xs) 4097) → 0 < length xs
-    go true q e = let z : c ≡ min (length xs) 4097 = cc in omega (arith, ltb-true 0 c h)
-    go false q e = none-some _ e
+entry-some : (c : ℕ) (xs : List PortRef) → entry c ≡ cappedLength (some xs) → ltb 0 c ≡ true → 0 < length xs
+unfolding cappedLength cap
+entry-some c xs e h = omega (arith, ltb-true 0 c h, entry-is c _ e .0)
 
 module _ (ws : List Wire) (n : ℕ) (actions details sources counts first next : List ℕ) (B : Bounded ws n) (S : Shaped ws n actions details) (R : Rewritable ws n actions details sources counts first next) where
   abbrev p : Map PlanAction

@@ -1,6 +1,6 @@
 -- A Branch whose only live wire enters another leads to what that one leads to, so the two may share a chain.
-use mathlib.Core.Path.{_≡_, refl, sym, ap, ap₂, _∙_, subst}
-use mathlib.Core.Option.{Option, none, some}
+use mathlib.Core.Path.{_≡_, refl, sym, ap, _∙_, subst}
+use mathlib.Core.Option.{Option, some}
 use mathlib.Core.List.{List, [], _∷_, _++_, append-nil}
 use Prim.Native.Nat.{ℕ, zero, suc, _+_, _-_, _≤_, _<_}
 use native.Mathlib.Omega.{arith}
@@ -14,21 +14,13 @@ use Rattle.records.specs.Access.{noWire}
 use Rattle.wire_index.proofs.Chains.{chain-one, chain-code}
 use Rattle.model.specs.Maps.{Map, All}
 use Rattle.model.specs.Offer.{PlanAction}
-use Rattle.model.specs.Rewrite.{both, collect, arrive, reach}
+use Rattle.model.specs.Rewrite.{collect, arrive, reach}
 use Rattle.model.proofs.Maps.{none-some}
-use Rattle.model.proofs.TargetCounts.{both-some, reach-more}
+use Rattle.model.proofs.TargetCounts.{both-some, reach-more, collect-more}
 use Rattle.state.specs.Planned.{shapeAt, shapeOf}
 use Rattle.rewrite.proofs.Linking.{within}
 use Rattle.emit.specs.Emit.{leadsTo, Live, execOf, Expands, Net, Starts, Entered, Shared, Branches, Ready}
 use Rattle.emit.proofs.Stack.{enter}
-
--- what is collected stays where each gives what it gave
-collect-more : (f g : Wire → Option (List PortRef)) → ((w : Wire) (xs : List PortRef) → f w ≡ some xs → g w ≡ some xs) → (us : List Wire) (ys : List PortRef) → collect f us ≡ some ys → collect g us ≡ some ys
-unfolding collect both
-collect-more f g h [] ys q = q
-collect-more f g h (u ∷ us) ys q =
-    let (xs, zs, a, b, s) = both-some (f u) (collect f us) ys q in
-    ap₂ both (h u xs a) (collect-more f g h us zs b) ∙ ap some (sym s)
 
 collect-one : (f : Wire → Option (List PortRef)) (u : Wire) (ys : List PortRef) → collect f (u ∷ []) ≡ some ys → f u ≡ some ys
 unfolding collect

@@ -1,16 +1,15 @@
 -- The laws of the stack: what a step down a chain, a push and a pop do to what it stands for.
 use mathlib.Core.Path.{_≡_, refl, sym, ap, ap₂, _∙_, subst}
-use mathlib.Core.Bool.{Bool, true, false, cond, false≢true}
+use mathlib.Core.Bool.{Bool, true, false, cond}
 use mathlib.Core.Option.{Option, none, some}
-use mathlib.Core.List.{List, [], _∷_, _++_, append-assoc, append-nil}
-use mathlib.Core.Logic.{_≢_}
+use mathlib.Core.List.{List, [], _∷_, _++_, append-assoc}
 use Prim.Native.Nat.{ℕ, zero, suc, _+_, _-_, _≤_, _<_}
 use native.Mathlib.Omega.{arith}
 use native.Mathlib.Decide.{ℕ-discrete}
 use lib.Dec.{eqb}
 use lib.ListN.{length, getD, set, length-append, length-set}
 use lib.Seq.{getD-set-same, getD-set-other}
-use borrow.Author.Tests.{eqb-true, ne-eqb}
+use borrow.Author.Tests.{eqb-true}
 use Rattle.ir.specs.Limits.{maxWires}
 use Rattle.ir.specs.Ports.{exec}
 use Rattle.ir.specs.declared.PortRef.{PortRef}
@@ -18,17 +17,15 @@ use Rattle.ir.specs.declared.Wire.{Wire}
 use Rattle.value.specs.declared.Value.{Value}
 use Rattle.records.specs.Access.{noWire}
 use Rattle.wire_index.specs.Chains.{Chain, end, link}
-use Rattle.wire_index.proofs.Chains.{chain-end, chain-step, chain-unique, Step}
+use Rattle.wire_index.proofs.Chains.{chain-end, chain-step}
 use Rattle.model.specs.Maps.{Map, All}
 use Rattle.model.specs.Offer.{PlanAction, BecomeLiteral, ShortCircuit, Truncate}
-use Rattle.model.specs.Rewrite.{both, collect, arrive, reach}
+use Rattle.model.specs.Rewrite.{collect, arrive, reach}
 use Rattle.model.proofs.Maps.{none-some}
 use Rattle.model.proofs.TargetCounts.{both-some, reach-more}
-use Rattle.state.specs.Planned.{shapeAt, shapeOf, targetsIn, Shaped}
-use Rattle.emit.specs.Emit.{orNil, leadsTo, lead, Live, execOf, Expands, Net, Stacked, Standing, Descended, Pushed, Popable, Popped, Descends}
-
-some-is : {A : Type 0} {o : Option (List A)} {xs ys : List A} → o ≡ some xs → o ≡ some ys → xs ≡ ys
-some-is {o = o} {xs = xs} {ys = ys} p q = let z : some xs ≡ some ys = sym p ∙ q in cc
+use Rattle.model.proofs.Endless.{free-reach}
+use Rattle.state.specs.Planned.{shapeAt, shapeOf, targetsIn}
+use Rattle.emit.specs.Emit.{leadsTo, lead, Live, execOf, Expands, Net, Stacked, Standing, Descended, Pushed, Popable, Popped, Descends}
 
 module _ (p : Map PlanAction) (n : ℕ) where
   -- what is reached is what a target leads to
@@ -131,11 +128,6 @@ module _ (ws : List Wire) (n : ℕ) (actions details first next : List ℕ) (N :
       go : (b : Bool) → eqb (e .port) exec ≡ b → cond b (collect (reach p k) (targetsIn ws (e .«node_id») (getD details (e .«node_id») 0))) (some []) ≡ some (leadsTo p n e) → Entered (suc k) e
       go true r q = record { at-exec = ap (λ (x : ℕ). record { «node_id» = e .«node_id»; port = x }) (eqb-true (e .port) exec r); left = k; one-more = refl }
       go false r q = no-targets e q h
-
-  none-reach : (k : ℕ) (e : PortRef) → p (e .«node_id») ≡ none → reach p k e ≡ some (e ∷ [])
-  unfolding reach arrive
-  none-reach zero e r = rw r refl
-  none-reach (suc k) e r = rw r refl
 
   literal-reach : (k : ℕ) (e : PortRef) (v : Value) → p (e .«node_id») ≡ some (BecomeLiteral v) → reach p k e ≡ some []
   unfolding reach arrive
@@ -247,7 +239,7 @@ module _ (ws : List Wire) (n : ℕ) (actions details first next : List ℕ) (N :
   leaf steps e h q l = at (p (e .«node_id»)) refl
     where
       at : (o : Option PlanAction) → p (e .«node_id») ≡ o → leadsTo p n e ≡ e ∷ []
-      at none r = sym (some-is (none-reach steps e r) q)
+      at none r = cc (free-reach p steps e r)
       at (some (BecomeLiteral v)) r = no-targets e (sym (literal-reach steps e v r) ∙ q) l
       at (some (ShortCircuit t)) r = no-targets e (sym (short-reach steps e t r) ∙ q) l
       at (some (Truncate ts)) r = absurd (h (only-branch (e .«node_id») ts r))

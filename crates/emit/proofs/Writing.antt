@@ -2,10 +2,9 @@
 use mathlib.Core.Path.{_≡_, refl, sym, ap, ap₂, _∙_, subst}
 use mathlib.Core.Bool.{Bool, true, false, cond}
 use mathlib.Core.Option.{Option, none, some}
-use mathlib.Core.List.{List, [], _∷_, _++_, append-assoc, append-nil}
+use mathlib.Core.List.{List, [], _∷_, _++_, append-nil}
 use Prim.Native.Nat.{ℕ, zero, suc, _+_, _*_, _/_, _≤_, _<_, min}
 use native.Mathlib.Omega.{arith}
-use native.Mathlib.Decide.{le-ind}
 use lib.Dec.{ltb}
 use lib.ListN.{length, getD, length-append}
 use lib.Seq.{take-suc, take-all}
@@ -20,7 +19,7 @@ use Rattle.records.proofs.Runs.{wires-length}
 use Rattle.model.specs.Maps.{Map, upTo}
 use Rattle.model.specs.Offer.{PlanAction}
 use Rattle.model.specs.Answer.{each}
-use Rattle.model.specs.Rewrite.{both, collect, reach, Source, cycles, drops, from, follow, joined, rewriteWire, rewriteWires}
+use Rattle.model.specs.Rewrite.{collect, reach, Source, cycles, drops, from, follow, joined, rewriteWire, rewriteWires}
 use Rattle.model.specs.TargetCounts.{cap, cappedLength}
 use Rattle.model.proofs.Maps.{none-some}
 use Rattle.model.proofs.TargetCounts.{both-some}
@@ -32,7 +31,7 @@ use Rattle.rewrite.specs.declared.Origin.{Origin}
 use Rattle.emit.specs.Emit.{orNil, leadsTo, becomes, fan, Live, Shared, Ready, Prepared}
 use Rattle.emit.proofs.Fanning.{wires-size, fan-size}
 use Rattle.emit.proofs.Stack.{leaf}
-use Rattle.emit.proofs.Nets.{entry-zero, entry-some, net}
+use Rattle.emit.proofs.Nets.{entry-zero, net}
 
 -- ---- one wire
 

@@ -1,15 +1,12 @@
 -- The outcome of an accepted input, by what the arrays hold after the worklist and by what the rewriting finds.
-use mathlib.Core.Path.{_≡_, refl, sym, ap, ap₂, _∙_, fun-ext}
-use mathlib.Core.Bool.{Bool, true, false, cond}
+use mathlib.Core.Path.{_≡_, refl, ap, ap₂, _∙_, fun-ext}
 use mathlib.Core.Option.{Option, none, some}
-use mathlib.Core.List.{List, [], _∷_, _++_}
-use mathlib.Core.Logic.{_≢_}
-use Prim.Native.Nat.{ℕ, zero, suc, _+_, _*_, _<_, _≤_}
+use mathlib.Core.List.{List, _++_}
+use Prim.Native.Nat.{ℕ, _+_, _*_, _<_, _≤_}
 use native.Mathlib.Omega.{arith}
 use native.Mathlib.Decide.{ℕ-discrete}
-use lib.Dec.{eqb, leb}
 use lib.ListN.{length, getD, length-append}
-use borrow.Author.Tests.{ne-eqb, le-leb, lt-leb}
+use borrow.Author.Tests.{le-leb, lt-leb}
 use Rattle.ir.specs.Limits.{maxWires}
 use Rattle.ir.specs.declared.Wire.{Wire}
 use Rattle.value.specs.declared.Value.{Value}
@@ -18,15 +15,14 @@ use Rattle.graph.specs.Graph.{Graph}
 use Rattle.graph.specs.Decode.{accepted, decode}
 use Rattle.model.specs.Maps.{Map, upTo}
 use Rattle.model.specs.Inputs.{size}
-use Rattle.model.specs.Offer.{PlanAction, BecomeLiteral, ShortCircuit, Truncate}
+use Rattle.model.specs.Offer.{PlanAction}
 use Rattle.model.specs.Rewrite.{rewriteWires}
 use Rattle.model.specs.Answer.{each, knownBytes, fateBytes, answer}
-use Rattle.model.specs.Outcome.{endlessIndex, wireOffset, ending, counted, wires, stops, Rewriting, Result, folds, refuses, measured, answered, outcome}
+use Rattle.model.specs.Outcome.{endlessIndex, wireOffset, ending, counted, wires, Result, folds, refuses, measured, answered, outcome}
 use Rattle.model.specs.Demands as Demands
 use Rattle.model.specs.Demands.{foldOf}
 use Rattle.model.proofs.Refusals.{at-graph}
-use Rattle.state.specs.Held.{knownOf}
-use Rattle.state.specs.Planned.{shapeAt, shapeOf, literalOf, valued, planOf, Shaped, Holds}
+use Rattle.state.specs.Planned.{shapeAt, shapeOf, literalOf, valued, planOf, Holds}
 use Rattle.answer.specs.Nodes.{knownRecords, literalFate, fateBy, fateRecords}
 use Rattle.emit.proofs.Fanning.{wires-size}
 use Rattle.folding.proofs.Alike.{wires-same, index-same, shape-alike}

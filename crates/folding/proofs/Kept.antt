@@ -1,26 +1,22 @@
 -- The demands follow from the result and the buffer.
-use mathlib.Core.Path.{_≡_, refl, sym, ap, ap₂, _∙_, subst, subst₂}
+use mathlib.Core.Path.{_≡_, refl, sym, ap, ap₂, _∙_, subst}
 use mathlib.Core.Bool.{Bool, true, false, cond}
 use mathlib.Core.Option.{Option, none, some}
 use lib.Dec.{leb}
 use borrow.Author.Tests.{leb-true}
 use mathlib.Core.List.{List}
-use mathlib.Core.Logic.{_↔_}
-use Prim.Native.Nat.{ℕ, _+_, _*_, _≤_, _<_}
+use Prim.Native.Nat.{ℕ, _≤_}
 use native.Mathlib.Omega.{arith}
-use lib.ListN.{length, getD, take}
+use lib.ListN.{length, take}
 use Rattle.ir.specs.declared.Wire.{Wire}
-use Rattle.encoding.specs.Wires.{wireAt}
 use Rattle.graph.specs.Graph.{Graph}
 use Rattle.graph.specs.Decode.{Verdict, accepted, refused, decode, graphOf}
-use Rattle.records.specs.Access.{noWire}
 use Rattle.records.proofs.Laid.{wire-says}
 use Rattle.model.specs.Maps.{All}
 use Rattle.model.specs.Inputs.{size}
-use Rattle.model.specs.Rewrite.{rewriteWires}
 use Rattle.ir.specs.Limits.{maxWires}
 use Rattle.model.specs.Answer.{answer}
-use Rattle.model.specs.Outcome.{wireOffset, counted, ending, wires, stops, measured, answered, Result, folds, refuses, Numbers, numbersOf, written, outcome}
+use Rattle.model.specs.Outcome.{wireOffset, counted, ending, wires, stops, measured, answered, Result, folds, refuses, Numbers, numbersOf, outcome}
 use Rattle.model.specs.Demands.{foldOf, planOf, Refused, FirstEndless, Clean, Demand3}
 use Rattle.model.proofs.Refusals.{refusals, never-full, folds-refuses, at-refusal, at-graph}
 use Rattle.model.proofs.Demand3.{demand3-returned}
@@ -119,10 +115,7 @@ module _ {input before after : List ℕ} {r : Outcome} (A : Answers input before
     finite-kept = subst FinitePlan same (demand .finite)
 
     clean-of : CleanWires (demand .graph)
-    clean-of ws e = let z : demand .wires ≡ ws = some-is (demand .rewrote) e in subst (λ (l : List Wire). All (Clean (planOf (demand .graph))) l) z (demand .clean)
-      where
-        some-is : {A : Type 0} {o : Option (List A)} {xs ys : List A} → o ≡ some xs → o ≡ some ys → xs ≡ ys
-        some-is {xs = xs} {ys = ys} p q = let z : some xs ≡ some ys = sym p ∙ q in cc
+    clean-of ws e = let z : demand .wires ≡ ws = cc (demand .rewrote) in subst (λ (l : List Wire). All (Clean (planOf (demand .graph))) l) z (demand .clean)
 
     pub clean-kept : CleanWires (graphOf input)
     clean-kept = subst CleanWires same clean-of

@@ -1,12 +1,12 @@
 -- From each stage to the entry's result and buffer.
 use mathlib.Core.Path.{_≡_, refl, sym, ap, ap₂, _∙_, subst, subst₂}
 use mathlib.Core.Bool.{Bool, true, false, cond, false≢true}
-use mathlib.Core.Option.{Option, none, some}
-use mathlib.Core.List.{List, [], _∷_, _++_, append-assoc}
-use Prim.Native.Nat.{ℕ, zero, suc, _+_, _-_, _*_, _<_, _≤_, min}
+use mathlib.Core.Option.{some}
+use mathlib.Core.List.{List, [], _∷_, _++_}
+use Prim.Native.Nat.{ℕ, suc, _+_, _-_, _*_, _<_, _≤_}
 use native.Mathlib.Omega.{arith}
 use lib.ListN.{length, getD, take, drop, length-append}
-use Rattle.ir.specs.Limits.{maxNodes, maxWires}
+use Rattle.ir.specs.Limits.{maxWires}
 use Rattle.ir.specs.declared.Wire.{Wire}
 use Rattle.encoding.specs.Numbers.{byte, splice, Written}
 use Rattle.encoding.specs.Wires.{wireBytes}
@@ -28,7 +28,7 @@ use Rattle.model.proofs.QueueLength.{always-joins}
 use Rattle.model.specs.Answer.{each}
 use Rattle.model.specs.Rewrite.{rewriteWire, rewriteWires}
 use Rattle.model.specs.TargetCounts.{cap}
-use Rattle.model.specs.Outcome.{endlessIndex, wireOffset, Result, folds, refuses, Numbers, numbersOf, written, outcome}
+use Rattle.model.specs.Outcome.{endlessIndex, wireOffset, folds, refuses, numbersOf, written, outcome}
 use Rattle.model.specs.Demands.{foldOf}
 use Rattle.model.proofs.Refusals.{at-refusal}
 use Rattle.model.proofs.WireBytes.{section-bytes}
@@ -37,9 +37,9 @@ use Rattle.rewrite.specs.Rewritable.{Rewritable}
 use Rattle.rewrite.specs.Tallied.{Stuck, Counted, keptWires}
 use Rattle.rewrite.proofs.KeptTargets.{wires-kept, kept-few, kept-counted}
 use Rattle.answer.specs.Nodes.{knownRecords, fateRecords}
-use Rattle.emit.specs.Emit.{orNil, Ready, EmitsAll}
+use Rattle.emit.specs.Emit.{orNil, Ready}
 use Rattle.folding.specs.declared.Outcome.{Outcome}
-use Rattle.folding.specs.Entry.{numbers, Answers, Indexes, Settled, Rewrote, Kept}
+use Rattle.folding.specs.Entry.{Answers, Indexes, Settled, Rewrote, Kept}
 use Rattle.folding.proofs.Answers.{bytesIn, bytes-size, outcome-endless, outcome-many, outcome-long, outcome-folds}
 
 -- an accepted input has its graph

@@ -5,13 +5,13 @@ use mathlib.Core.Bool.{true}
 use mathlib.Core.List.{List, []}
 use mathlib.Core.Option.{some}
 use mathlib.Core.Logic.{_↔_}
-use lib.ListN.{length, getD, take}
+use lib.ListN.{length, getD}
 use Rattle.ir.specs.declared.Wire.{Wire}
 use Rattle.encoding.specs.Wires.{wireAt}
 use Rattle.value.specs.declared.Value.{Value}
 use Rattle.semantics.specs.Finite.{finiteValue}
 use Rattle.graph.specs.Graph.{Graph}
-use Rattle.graph.specs.Decode.{accepted, decode, graphOf}
+use Rattle.graph.specs.Decode.{graphOf}
 use Rattle.records.specs.Access.{noWire}
 use Rattle.model.specs.Maps.{All}
 use Rattle.model.specs.Inputs.{size}

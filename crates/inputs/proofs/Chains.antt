@@ -1,5 +1,5 @@
 -- The chain of a slot, taken apart: what it says of the wires into the port.
-use Prim.Native.Nat.{ℕ, suc, _-_, _≤_, _<_}
+use Prim.Native.Nat.{ℕ, _-_, _≤_, _<_}
 use native.Mathlib.Omega.{arith}
 use mathlib.Core.Path.{_≡_, refl, ap, _∙_}
 use mathlib.Core.List.{List, [], _∷_}
@@ -17,32 +17,17 @@ use Rattle.model.specs.Maps.{Map}
 use Rattle.model.specs.Inputs.{optional, carried, resolveWires}
 use Rattle.model.specs.declared.Resolved.{Resolved}
 use Rattle.wire_index.specs.Chains.{Chain, end, link}
+use Rattle.wire_index.proofs.Chains.{Step, chain-step, chain-code}
 use Rattle.inputs.specs.Inputs.{feedsIn, feedsOf, Wired}
 use Rattle.inputs.specs.declared.Feeds.{Feeds}
 use Rattle.inputs.specs.declared.Feeds.the-variants.{None, One, Many}
 
 -- ---- a chain
 
--- a chain from a code that is not 0: its wire, and the chain after it
-pub record Head (ws : List Wire) (next : List ℕ) (code : ℕ) (xs : List Wire) : Type 0 where
-  pub wire : ℕ
-  pub rest : List Wire
-  pub code-is : code ≡ suc wire
-  pub within : wire < length ws
-  pub list-is : xs ≡ getD ws wire noWire ∷ rest
-  pub tail : Chain ws next (getD next wire 0) rest
-
-module _ {ws : List Wire} {next : List ℕ} where
-  pub taken-apart : {code : ℕ} {xs : List Wire} → Chain ws next code xs → ((code ≡ 0) × (xs ≡ [])) ⊎ Head ws next code xs
-  taken-apart end = inl (refl, refl)
-  taken-apart (link {i} {xs} h t) = inr (record { wire = i; rest = xs; code-is = refl; within = h; list-is = refl; tail = t })
-
-  pub code-few : {code : ℕ} {xs : List Wire} → length ws ≤ maxWires → Chain ws next code xs → code ≤ maxWires
-  code-few {code} h t = go (taken-apart t)
-    where
-      go : {xs : List Wire} → ((code ≡ 0) × (xs ≡ [])) ⊎ Head ws next code xs → code ≤ maxWires
-      go (inl e) = omega (arith, e .0)
-      go (inr k) = omega (arith, k .code-is, k .within)
+-- a chain is at its end, or has a first wire
+taken-apart : {ws : List Wire} {next : List ℕ} {code : ℕ} {xs : List Wire} → Chain ws next code xs → ((code ≡ 0) × (xs ≡ [])) ⊎ ((0 < code) × Step ws next code xs)
+taken-apart end = inl (refl, refl)
+taken-apart (link h t) = inr (omega arith, chain-step (link h t) (omega arith))
 
 -- ---- what a slot says
 
@@ -75,30 +60,29 @@ module _ (first next : List ℕ) (at : ℕ) {code : ℕ} (e : code ≡ getD firs
     feeds-many z = rw (← e, ne-eqb code 0 some, ← wire-is, ne-eqb (getD next i 0) 0 z)
 
 module _ (ws : List Wire) (first next : List ℕ) (at : ℕ) where
-  pub says : (xs : List Wire) → Chain ws next (getD first at 0) xs → Says ws xs (feedsOf first next at)
+  abbrev code : ℕ
+  code = getD first at 0
+
+  pub says : (xs : List Wire) → Chain ws next code xs → Says ws xs (feedsOf first next at)
   says xs t = start (taken-apart t)
     where
-      start : ((getD first at 0 ≡ 0) × (xs ≡ [])) ⊎ Head ws next (getD first at 0) xs → Says ws xs (feedsOf first next at)
+      start : ((code ≡ 0) × (xs ≡ [])) ⊎ ((0 < code) × Step ws next code xs) → Says ws xs (feedsOf first next at)
       start (inl e) = rw (← feeds-none first next at refl (e .0)) (e .1)
-      start (inr h) = go (taken-apart (h .tail))
+      start (inr (l, h)) = go (taken-apart (h .chain))
         where
-          some : getD first at 0 ≡ 0 → ⊥
-          some e = omega (arith, h .code-is)
+          some : code ≡ 0 → ⊥
+          some e = omega arith
 
-          wire-is : h .wire ≡ getD first at 0 - 1
-          wire-is = omega (arith, h .code-is)
-
-          go : ((getD next (h .wire) 0 ≡ 0) × (h .rest ≡ [])) ⊎ Head ws next (getD next (h .wire) 0) (h .rest) → Says ws xs (feedsOf first next at)
+          go : ((getD next (code - 1) 0 ≡ 0) × (h .rest ≡ [])) ⊎ ((0 < getD next (code - 1) 0) × Step ws next (getD next (code - 1) 0) (h .rest)) → Says ws xs (feedsOf first next at)
           go (inl e) =
-              rw (← feeds-one first next at refl some wire-is (e .0), ← wire-is)
-              (h .within, h .list-is ∙ ap (λ (ys : List Wire). getD ws (h .wire) noWire ∷ ys) (e .1))
-          go (inr k) =
-              rw (← feeds-many first next at refl some wire-is (λ e. omega (arith, k .code-is)))
+              rw (← feeds-one first next at refl some refl (e .0)) (h .within, h .split ∙ ap (λ (ys : List Wire). getD ws (code - 1) noWire ∷ ys) (e .1))
+          go (inr (m, k)) =
+              rw (← feeds-many first next at refl some refl (λ e. omega arith))
               (record {
-                one = getD ws (h .wire) noWire;
-                two = getD ws (k .wire) noWire;
+                one = getD ws (code - 1) noWire;
+                two = getD ws (getD next (code - 1) 0 - 1) noWire;
                 rest = k .rest;
-                list-is = h .list-is ∙ ap (λ (ys : List Wire). getD ws (h .wire) noWire ∷ ys) (k .list-is);
+                list-is = h .split ∙ ap (λ (ys : List Wire). getD ws (code - 1) noWire ∷ ys) (k .split);
               })
 
 -- ---- a port
@@ -109,7 +93,7 @@ module _ {wires first next : List ℕ} (w : Wired wires first next) (n p : ℕ) 
   chain = w .chains .chain n p hn hp
 
   pub port-code : getD first (slot n p) 0 ≤ maxWires
-  port-code = code-few (w .bounded .few-wires) chain
+  port-code = omega (arith, w .bounded .few-wires, chain-code chain)
 
   pub port-says : (f : Feeds) → f ≡ feedsOf first next (slot n p) → Says (wiresOf wires) (feedsIn (wiresOf wires) n p) f
   port-says f e = rw e (says (wiresOf wires) first next (slot n p) (feedsIn (wiresOf wires) n p) chain)

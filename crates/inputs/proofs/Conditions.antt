@@ -1,23 +1,21 @@
 -- Variants of kinds and of inputs, rows of the table, and conditions.
-use Prim.Native.Nat.{ℕ, _-_, _≤_, _<_}
-use native.Mathlib.Omega.{arith}
+use Prim.Native.Nat.{ℕ, _≤_, _<_}
 use mathlib.Core.Path.{_≡_, refl, sym, ap, _∙_}
 use mathlib.Core.Bool.{Bool, true, false, cond, _&&_, _||_, and-true, false≢true}
-use mathlib.Core.Option.{Option, none, some}
+use mathlib.Core.Option.{none, some}
 use mathlib.Core.List.{List, [], _∷_, map}
 use lib.Arith.{lt-of-le-ne}
-use lib.Dec.{eqb, leb, ltb}
+use lib.Dec.{eqb, leb}
 use borrow.Author.Tests.{eqb-true, eqb-false, leb-true, lt-leb, lt-ltb, ne-eqb}
 use Rattle.value.specs.Variants.{variantOf, inVariant}
 use Rattle.value.specs.declared.Value.{Value}
-use Rattle.value.specs.declared.Operand.{Operand}
 use Rattle.encoding.specs.Values.{valueAt, compositeAt}
 use Rattle.conversions.specs.Conversions.{truthyOf}
 use Rattle.graph.specs.Graph.{Graph}
 use Rattle.graph.specs.declared.Row.{Row}
 use Rattle.table.specs.Table.{covers as tableCovers, isRow, hasCell}
 use Rattle.model.specs.Maps.{any}
-use Rattle.model.specs.Inputs.{carried, orProperty, isResolved, allResolved, operandOf}
+use Rattle.model.specs.Inputs.{carried, isResolved, allResolved, operandOf}
 use Rattle.model.specs.Offer.{rowOf, sameRow, covers, resolveCondition}
 use Rattle.model.specs.declared.Resolved.{Resolved}
 use Rattle.state.specs.Held.{heldValue, held}
@@ -73,20 +71,9 @@ pub value-at : (k : ℕ) (s : List ℕ) (i : ℕ) → variantOf (valueAt k s i) 
 unfolding valueAt compositeAt
 value-at k s i = kind-variant _ _ _ _ _ _ _ refl refl refl refl refl refl refl k
 
-pub held-none : (k a b c d : ℕ) → k ≡ 0 → 8 ≡ variantIn (carried (held k a b c d))
-unfolding held
-held-none k a b c d e = rw e
-
 pub held-some : (k a b c d : ℕ) → (k ≡ 0 → ⊥) → kindVariant k ≡ variantIn (carried (held k a b c d))
 unfolding held
 held-some k a b c d e = rw (ne-eqb k 0 e) (sym (held-value k a b c d))
-
--- ---- operands
-
--- a value is the same operand as property and as known
-pub same-operand : (o : Option Value) → operandOf (carried o) ≡ operandOf (orProperty Resolved.Unwired o)
-same-operand none = refl
-same-operand (some v) = refl
 
 -- ---- an input that a gate may have
 

@@ -80,7 +80,7 @@ module _ (p : Map PlanAction) where
   reach-nil Targets.here k r = (k, r)
   reach-nil (Targets.step {e = e} {t = t} s c) k r = let (j, q) = reach-nil-step k e t r s in reach-nil c j q
 
-  free-reach : (k : ℕ) (e : PortRef) → p (e .«node_id») ≡ none → reach p k e ≡ some (e ∷ [])
+  pub free-reach : (k : ℕ) (e : PortRef) → p (e .«node_id») ≡ none → reach p k e ≡ some (e ∷ [])
   unfolding reach arrive
   free-reach zero e q = rw q
   free-reach (suc k) e q = rw q

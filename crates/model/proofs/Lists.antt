@@ -1,6 +1,6 @@
 -- Counting, finding and distinct numbers in lists.
 use mathlib.Core.Path.{_≡_, refl, sym, ap, _∙_}
-use mathlib.Core.Bool.{Bool, true, false, cond, _&&_, _||_, true≢false, false≢true}
+use mathlib.Core.Bool.{Bool, true, false, cond, _&&_, _||_, true≢false, false≢true, or-assoc}
 use mathlib.Core.List.{List, [], _∷_, _++_, map}
 use mathlib.Core.Logic.{inl, inr, _≢_}
 use Prim.Native.Nat.{ℕ, zero, suc, _+_, _<_, _≤_}
@@ -14,14 +14,6 @@ use Rattle.model.specs.Maps.{keep, any, All, upTo, iterate}
 use Rattle.model.proofs.Maps.{Same, same?}
 
 -- ---- tests
-
-pub and-left : (a b : Bool) → (a && b) ≡ true → a ≡ true
-and-left true b e = refl
-and-left false b e = e
-
-pub and-right : (a b : Bool) → (a && b) ≡ true → b ≡ true
-and-right true b e = e
-and-right false b e = absurd (false≢true e)
 
 pub or-false-left : (a b : Bool) → (a || b) ≡ false → a ≡ false
 or-false-left true b e = e
@@ -123,10 +115,6 @@ count-one t (suc n) = go (same? t n) (count-one t n)
 
 -- ---- membership
 
-or-assoc : (a b c : Bool) → (a || (b || c)) ≡ ((a || b) || c)
-or-assoc true b c = refl
-or-assoc false b c = refl
-
 pub or-right : (a b : Bool) → b ≡ true → (a || b) ≡ true
 or-right true b e = refl
 or-right false b e = e
@@ -134,7 +122,7 @@ or-right false b e = e
 pub member-append : (m : ℕ) (xs ys : List ℕ) → member m (xs ++ ys) ≡ (member m xs || member m ys)
 unfolding member
 member-append m [] ys = refl
-member-append m (x ∷ xs) ys = rw (member-append m xs ys) (or-assoc (eqb x m) (member m xs) (member m ys))
+member-append m (x ∷ xs) ys = rw (member-append m xs ys) (sym (or-assoc (eqb x m) (member m xs) (member m ys)))
 
 pub member-left : (m : ℕ) (xs ys : List ℕ) → member m (xs ++ ys) ≡ false → member m xs ≡ false
 member-left m xs ys e = or-false-left (member m xs) (member m ys) (sym (member-append m xs ys) ∙ e)

@@ -1,11 +1,12 @@
 -- What a node is offered only grows as more is known, and stays once it has a value.
 use mathlib.Core.Path.{_≡_, refl, sym, ap, _∙_, fun-ext, subst}
-use mathlib.Core.Bool.{Bool, true, false, cond, not, _&&_, _||_, false≢true}
+use mathlib.Core.Bool.{Bool, true, false, cond, _&&_, _||_, false≢true}
 use mathlib.Core.Option.{Option, none, some}
 use mathlib.Core.List.{List, [], _∷_, map}
 use mathlib.Core.Logic.{_⊎_, inl, inr}
 use Prim.Native.Nat.{ℕ}
 use lib.Dec.{eqb}
+use borrow.Author.Tests.{not-true}
 use Rattle.ir.specs.Classes.{foldingOf, inputPorts}
 use Rattle.ir.specs.Flags.{nofold}
 use Rattle.ir.specs.Ports.{inputA, inputB, bSelectB, bCond, rerInput}
@@ -18,13 +19,14 @@ use Rattle.conversions.specs.Conversions.{truthyOf}
 use Rattle.semantics.specs.Finite.{nonFiniteFloat}
 use Rattle.semantics.proofs.Laws.{decided}
 use Rattle.graph.specs.Graph.{Graph, member}
+use Rattle.graph.proofs.Roles.{and-left, and-right}
 use Rattle.model.specs.Maps.{Map, orElse, any, All}
 use Rattle.model.specs.Inputs.{nodeOf, isPort, feeds, property, carried, resolveWires, resolveInput, orProperty, resolveDataInput, isResolved, allResolved, valueIn, operandOf}
 use Rattle.model.specs.Offer.{Offer, noOffer, valueOffer, literalOffer, covers, resolveCondition, chosenOffer, selectOffer, branchOffer, plannable, evalAt, evaluated, settles, annihilator, holdsBool, settled, gateValue, gateOffer, foldingOffer, byItself, nodeOffer, offer}
 use Rattle.model.specs.Worklist.{consumes}
 use Rattle.model.specs.declared.Resolved.{Resolved}
 use Rattle.model.proofs.Maps.{same?, Same, _≼_, _⊑_, none-some, orElse-right}
-use Rattle.model.proofs.Lists.{and-left, and-right, keep-all}
+use Rattle.model.proofs.Lists.{keep-all}
 
 -- once i is resolved, j is the same
 infix 40 _⊴_
@@ -181,10 +183,6 @@ settles-class c b e = go (same? c 12) (same? c 13) e
     go (inl p) q e = let x : false ≡ b = cc (rw (p .0) at e) in rw (← x) (p .1)
     go (inr p) (inl q) e = let x : true ≡ b = cc (rw (p, q .0) at e) in rw (← x) (q .1)
     go (inr p) (inr q) e = none-some b (rw (p, q) at e)
-
-not-true : (b : Bool) → not b ≡ true → b ≡ false
-not-true true e = absurd (false≢true e)
-not-true false e = refl
 
 holds-operand : (b : Bool) (i : Resolved) → holdsBool b i ≡ true → operandOf i ≡ Operand.Known (Value.Bool b)
 holds-operand b Resolved.Unwired e = absurd (false≢true e)

@@ -12,13 +12,14 @@ use lib.ListN.{length, length-append, List·getD-eq-default}
 use Rattle.ir.specs.declared.Wire.{Wire}
 use Rattle.value.specs.declared.Value.{Value}
 use Rattle.graph.specs.Graph.{Graph, member}
+use Rattle.graph.proofs.Roles.{and-left, and-right}
 use Rattle.model.specs.Maps.{isSome, orElse, Map, any, upTo, iterate}
 use Rattle.model.specs.Inputs.{size, nodeOf}
 use Rattle.model.specs.Offer.{PlanAction, Offer, noOffer, nodeOffer, offer}
 use Rattle.model.specs.Trial.{State, empty, add, trial, trials, Settled}
 use Rattle.model.specs.Worklist.{consumes, joiners, Work, start, newly, pop, next, step, after, worklist}
 use Rattle.model.proofs.Maps.{eqb-same, Same, same?, _≼_, _⊑_, none-some, some-false, some-true, ⊑-antisym, orElse-right, orElse-least, orElse-none, put-here, put-there, put-grows, put-least, put-none}
-use Rattle.model.proofs.Lists.{and-left, and-right, bit, count, length-keep, count-two, count-or, length-upTo, count-le, count-length, count-false, and-bit, or-bit, count-one, member-left, member-right, keep-miss, member-upTo, iterate-keeps}
+use Rattle.model.proofs.Lists.{bit, count, length-keep, count-two, count-or, length-upTo, count-le, count-length, count-false, and-bit, or-bit, count-one, member-left, member-right, keep-miss, member-upTo, iterate-keeps}
 use Rattle.model.proofs.Offers.{_≤ₒ_, offer-mono, offer-local}
 
 infix 40 _≤ₛ_

@@ -1,21 +1,22 @@
 -- The waiting nodes are distinct nodes, so there are never more of them than nodes.
 use mathlib.Core.Path.{_≡_, refl, sym, _∙_}
-use mathlib.Core.Bool.{Bool, true, false, cond, not, _&&_, _||_, true≢false, false≢true}
+use mathlib.Core.Bool.{Bool, true, false, cond, not, _&&_, _||_, true≢false}
 use mathlib.Core.List.{List, [], _∷_, _++_, append-nil}
 use mathlib.Core.Logic.{inl, inr, _≢_}
 use Prim.Native.Nat.{ℕ, zero, suc, _+_, _<_, _≤_}
 use native.Mathlib.Omega.{arith}
 use lib.Dec.{eqb}
 use lib.ListN.{length}
-use borrow.Author.Tests.{le-leb}
+use borrow.Author.Tests.{le-leb, not-true}
 use Rattle.value.specs.declared.Value.{Value}
 use Rattle.graph.specs.Graph.{Graph, member}
+use Rattle.graph.proofs.Roles.{and-right}
 use Rattle.model.specs.Maps.{keep, isSome, Map, All, upTo}
 use Rattle.model.specs.Inputs.{size}
 use Rattle.model.specs.Trial.{State, trial}
 use Rattle.model.specs.Worklist.{queuePlaces, consumes, joiners, start, newly, pop, next, step, after, joins, alwaysJoins}
 use Rattle.model.proofs.Maps.{eqb-same, Same, same?}
-use Rattle.model.proofs.Lists.{and-right, or-false-left, or-false-right, member-append, all-append, all-weaken, all-keep, Distinct, distinct-below, iterate-keeps}
+use Rattle.model.proofs.Lists.{or-false-left, or-false-right, member-append, all-append, all-weaken, all-keep, Distinct, distinct-below, iterate-keeps}
 
 -- distinct numbers below n
 pub record Waiting (n : ℕ) (xs : List ℕ) : Type 0 where
@@ -23,7 +24,7 @@ pub record Waiting (n : ℕ) (xs : List ℕ) : Type 0 where
   pub below : All (λ x. x < n) xs
 
 -- what is not among the elements is not among those kept
-keep-out : (f : ℕ → Bool) (m : ℕ) (xs : List ℕ) → member m xs ≡ false → member m (keep f xs) ≡ false
+pub keep-out : (f : ℕ → Bool) (m : ℕ) (xs : List ℕ) → member m xs ≡ false → member m (keep f xs) ≡ false
 unfolding keep member
 keep-out f m [] e = refl
 keep-out f m (x ∷ xs) e = go (f x) (keep-out f m xs (or-false-right (eqb x m) _ e))
@@ -71,10 +72,6 @@ upTo-waiting (suc n) =
   where
     absurd-lt : (x n : ℕ) → x < n → x ≡ n → ⊥
     absurd-lt x n l e = omega arith
-
-not-true : (b : Bool) → not b ≡ true → b ≡ false
-not-true true e = absurd (false≢true e)
-not-true false e = refl
 
 module _ (own : Map Value) (g : Graph) where
   next-waiting : (s : State) (pops : ℕ) (queue : List ℕ) → Waiting (size g) queue → Waiting (size g) (next own g s pops queue .queue)

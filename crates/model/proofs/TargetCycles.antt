@@ -16,19 +16,9 @@ use Rattle.model.specs.Offer.{PlanAction, BecomeLiteral, ShortCircuit, T
 use Rattle.model.specs.Rewrite.{both, collect, arrive, reach, Enters, Targets, TargetCycle}
 use Rattle.model.proofs.Maps.{Same, same?, by-bool, none-some}
 use Rattle.model.proofs.Lists.{Distinct, distinct-below}
+use Rattle.model.proofs.TargetCounts.{both-some}
 
 -- ---- chains
-
-both-left : {A : Type 0} (o q : Option (List A)) (xs : List A) → both o q ≡ some xs → (ys : List A) × (o ≡ some ys)
-unfolding both
-both-left none q xs e = none-some xs e
-both-left (some ys) q xs e = (ys, refl)
-
-both-right : {A : Type 0} (o q : Option (List A)) (xs : List A) → both o q ≡ some xs → (ys : List A) × (q ≡ some ys)
-unfolding both
-both-right none q xs e = none-some xs e
-both-right (some zs) none xs e = none-some xs e
-both-right (some zs) (some ys) xs e = (ys, refl)
 
 collect-each : {A B : Type 0} (f : A → Option (List B)) (ts : List A) (xs : List B) → collect f ts ≡ some xs → (t : A) → List·Memᴰ t ts → (ys : List B) × (f t ≡ some ys)
 unfolding collect
@@ -36,8 +26,8 @@ collect-each f [] xs e t m = absurd (List·Memᴰ·not-nil m)
 collect-each {A} {B} f (x ∷ ts) xs e t m = go (List·Memᴰ·cases-cons m) (collect-each f ts)
   where
     go : (t ≡ x) ⊎ List·Memᴰ t ts → ((xs : List B) → collect f ts ≡ some xs → (t : A) → List·Memᴰ t ts → (ys : List B) × (f t ≡ some ys)) → (ys : List B) × (f t ≡ some ys)
-    go (inl q) ih = let (ys, r) = both-left _ _ xs e in (ys, ap f q ∙ r)
-    go (inr k) ih = let (ys, r) = both-right _ _ xs e in ih ys r t k
+    go (inl q) ih = let (ys, zs, r, s, u) = both-some _ _ xs e in (ys, ap f q ∙ r)
+    go (inr k) ih = let (ys, zs, r, s, u) = both-some _ _ xs e in ih zs s t k
 
 -- one that gives nothing
 collect-none : {A B : Type 0} (f : A → Option (List B)) (ts : List A) → collect f ts ≡ none → (t : A) × List·Memᴰ t ts × (f t ≡ none)

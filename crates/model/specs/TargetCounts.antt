@@ -1,10 +1,10 @@
--- How many unplanned targets a wire leads to, by a table of counts, and which is the j-th: what the program computes in few steps, where
--- `Rewrite.reach` would list them all.
-use Prim.Native.Nat.{ℕ, zero, suc, _+_, _-_, min}
+-- How many unplanned targets a wire leads to, by a table of counts: what the program computes in few steps, where `Rewrite.reach` would list
+-- them all.
+use Prim.Native.Nat.{ℕ, zero, suc, _+_, min}
 use mathlib.Core.Bool.{cond}
 use mathlib.Core.Option.{Option, none, some}
 use mathlib.Core.List.{List, [], _∷_}
-use lib.Dec.{eqb, ltb}
+use lib.Dec.{eqb}
 use lib.ListN.{length}
 use Rattle.ir.specs.Ports.{exec}
 use Rattle.ir.specs.declared.PortRef.{PortRef}
@@ -52,32 +52,3 @@ round p table b = total (λ e. countAt table (p (e .«node_id»)) e) (takenTarge
 unfoldable pub rounds : Map PlanAction → ℕ → ℕ → Option ℕ
 rounds p zero = λ b. none
 rounds p (suc k) = round p (rounds p k)
-
--- ---- the j-th
-
--- a target, and which of the targets that it leads to
-pub record Spot : Type 0 where
-  pub target : PortRef
-  pub index : ℕ
-
--- which of the targets leads to the j-th, where c counts what each leads to
-unfoldable pub locate : (PortRef → ℕ) → List PortRef → ℕ → Option Spot
-locate c [] j = none
-locate c (e ∷ es) j = cond (ltb j (c e)) (some (record { target = e; index = j })) (locate c es (j - c e))
-
-unfoldable pub atSpot : {B : Type 0} → Option Spot → B → (Spot → B) → B
-atSpot none b f = b
-atSpot (some s) b f = f s
-
--- the j-th target that e leads to, through at most k Branches
-unfoldable pub nthTarget : Map PlanAction → (PortRef → ℕ) → ℕ → PortRef → ℕ → PortRef
-nthTarget p c zero e j = e
-nthTarget p c (suc k) e j = atSpot (locate c (takenTargets (p (e .«node_id»))) j) e (λ s. nthTarget p c k (s .target) (s .index))
-
-unfoldable pub orZero : Option ℕ → ℕ
-orZero none = 0
-orZero (some n) = n
-
--- the counts after k rounds
-unfoldable pub countBy : Map PlanAction → ℕ → PortRef → ℕ
-countBy p k e = orZero (countAt (rounds p k) (p (e .«node_id»)) e)

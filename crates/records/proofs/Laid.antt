@@ -2,12 +2,11 @@
 use Prim.Native.Nat.{ℕ, _+_, _-_, _*_, _≤_, _<_}
 use native.Mathlib.Omega.{arith}
 use mathlib.Core.Path.{_≡_, refl, sym, ap, _∙_}
-use mathlib.Core.Bool.{true, false, false≢true}
+use mathlib.Core.Bool.{true, false≢true}
 use mathlib.Core.List.{List, [], _∷_}
 use lib.ListN.{length, getD, take, drop, length-append}
 use lib.Dec.{ltb}
 use borrow.Author.Tests.{ltb-true}
-use Rattle.ir.specs.declared.Wire.{Wire}
 use Rattle.ir.specs.declared.Role.{Role}
 use Rattle.ir.specs.declared.Role.the-variants.{Unlisted as NoRole, Node as NodeRole, Wire as WireRole, Property as PropertyRole, Row as RowRole, Annihilator as AnnihilatorRole}
 use Rattle.encoding.specs.Numbers.{byte, u16At}

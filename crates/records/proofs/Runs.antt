@@ -41,10 +41,6 @@ module _ {A : Type 0} (size : ℕ) (read : List ℕ → ℕ → A) (d : A) (loca
   run : List ℕ
   run = take (size * length xs) (drop from s)
 
-  run-length : length run ≡ size * length xs
-  unfolding run
-  run-length = length-take-le _ _ (omega (arith, length-drop from s))
-
   part : (j : ℕ) → size * j + size ≤ size * length xs → (i : ℕ) → i < size → byte run (size * j + i) ≡ byte s (from + size * j + i)
   unfolding run
   part j h i k =

@@ -25,7 +25,7 @@ use Rattle.table.specs.Table.{covers as tableCovers, hasCell, annihilatorOf}
 use Rattle.table.specs.declared.AnnihilatorKind.{AnnihilatorKind}
 use Rattle.table.specs.declared.OptionAnnihilator.{OptionAnnihilator}
 use Rattle.model.specs.Maps.{any, orElse}
-use Rattle.model.specs.Inputs.{optional, isResolved, allResolved, operandOf}
+use Rattle.model.specs.Inputs.{optional, allResolved, operandOf}
 use Rattle.model.specs.Offer.{plannable, covers, evaluated, settles, annihilator, holdsBool, settled, gateValue, literalOffer}
 use Rattle.model.specs.declared.Resolved.{Resolved}
 use Rattle.model.proofs.Resolved.{the-type as resolved-type}

@@ -5,7 +5,7 @@ use native.Mathlib.Decide.{ℕ-discrete}
 use native.Mathlib.Nat.{add-assoc}
 use native.Mathlib.Numerals.{one-add}
 use mathlib.Core.Path.{_≡_, refl, sym, ap, _∙_}
-use mathlib.Core.Bool.{Bool, true, false, _&&_, _||_}
+use mathlib.Core.Bool.{Bool, true, false, _||_, and-false}
 use mathlib.Core.List.{List}
 use lib.Dec.{eqb}
 use lib.ListN.{length, getD, set, length-set}
@@ -14,10 +14,11 @@ use borrow.Author.Tests.{ne-eqb, eqb-true}
 use Rattle.ir.specs.Limits.{maxNodes}
 use Rattle.ir.specs.declared.PortRef.{PortRef}
 use Rattle.ir.specs.declared.Wire.{Wire}
+use Rattle.graph.proofs.Roles.{and-left, and-right}
 use Rattle.records.specs.Access.{noWire, Bounded}
 use Rattle.model.specs.Rewrite.{cycles, leave, follow}
 use Rattle.model.proofs.Maps.{by-bool}
-use Rattle.model.proofs.Lists.{and-left, and-right, or-false-left, or-false-right}
+use Rattle.model.proofs.Lists.{or-false-left, or-false-right}
 use Rattle.state.specs.Planned.{shapeOf, Shaped}
 use Rattle.rewrite.specs.Sources.{passedTo, Sources, Traced}
 use Rattle.rewrite.specs.Jumps.{jumps, jumped, turned, Along, Jumped}
@@ -33,11 +34,7 @@ module _ (ws : List Wire) (actions sources : List ℕ) (m : ℕ) where
 
   pub jump-ends : (getD actions (passedTo ws sources m .«node_id») 0 ≡ 2 → ⊥) → jumps ws actions sources m ≡ false
   unfolding jumps
-  jump-ends h = rw (ne-eqb _ _ h) (go (eqb (getD actions m 0) 2))
-    where
-      go : (b : Bool) → (b && false) ≡ false
-      go true = refl
-      go false = refl
+  jump-ends h = rw (ne-eqb _ _ h) (and-false (eqb (getD actions m 0) 2))
 
   pub jump-on : getD actions m 0 ≡ 2 → getD actions (passedTo ws sources m .«node_id») 0 ≡ 2 → jumps ws actions sources m ≡ true
   unfolding jumps

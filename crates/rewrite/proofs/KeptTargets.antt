@@ -1,12 +1,12 @@
 -- Where neither a Select nor a Branch is planned, each wire into a node that stays becomes one wire, and each other none.
-use Prim.Native.Nat.{ℕ, zero, suc, _+_, _≤_, _<_, min}
+use Prim.Native.Nat.{ℕ, zero, suc, _+_, _≤_, _<_}
 use native.Mathlib.Omega.{arith}
 use native.Mathlib.Decide.{ℕ-discrete}
 use native.Mathlib.Numerals.{add-one}
-use mathlib.Core.Path.{_≡_, refl, sym, ap, ap₂, _∙_}
-use mathlib.Core.Bool.{Bool, true, false, cond}
-use mathlib.Core.Option.{Option, none, some}
-use mathlib.Core.List.{List, [], _∷_, _++_}
+use mathlib.Core.Path.{_≡_, refl, ap, ap₂, _∙_}
+use mathlib.Core.Bool.{cond}
+use mathlib.Core.Option.{Option, some}
+use mathlib.Core.List.{List, [], _∷_}
 use lib.Dec.{eqb}
 use lib.ListN.{length, getD, drop, length-append}
 use lib.Seq.{drop-cons, drop-length}
@@ -16,7 +16,7 @@ use Rattle.ir.specs.declared.Wire.{Wire}
 use Rattle.records.specs.Access.{noWire, Named}
 use Rattle.model.specs.Maps.{Map}
 use Rattle.model.specs.Offer.{PlanAction}
-use Rattle.model.specs.Rewrite.{both, collect, arrive, reach, Source, from, leave, follow, joined, rewriteWire, rewriteWires}
+use Rattle.model.specs.Rewrite.{both, collect, arrive, reach, from, leave, follow, joined, rewriteWire, rewriteWires}
 use Rattle.model.specs.TargetCounts.{cap}
 use Rattle.model.proofs.Maps.{by-bool}
 use Rattle.state.specs.Planned.{shapeOf, Shaped}

@@ -4,7 +4,7 @@ use native.Mathlib.Omega.{arith}
 use native.Mathlib.Decide.{ℕ-discrete, decLt}
 use native.Mathlib.Numerals.{add-one}
 use mathlib.Core.Path.{_≡_, refl, sym, ap, _∙_, fun-ext}
-use mathlib.Core.Bool.{Bool, true, false, cond, _&&_}
+use mathlib.Core.Bool.{Bool, true, false, cond, _&&_, and-false}
 use mathlib.Core.List.{List, [], _∷_}
 use mathlib.Core.Logic.{_⊎_, inl, inr, ⊎-elim}
 use lib.Dec.{eqb, ltb}
@@ -17,6 +17,7 @@ use Rattle.records.specs.Access.{noWire, Bounded}
 use Rattle.model.specs.Maps.{keep}
 use Rattle.model.specs.Inputs.{isPort}
 use Rattle.wire_index.specs.Chains.{Chain, end, link}
+use Rattle.wire_index.proofs.Chains.{chain-code}
 use Rattle.state.specs.Planned.{Shaped}
 use Rattle.rewrite.specs.Counts.{countIn}
 use Rattle.rewrite.specs.Taken.{takenWires, Later, Taken}
@@ -35,26 +36,6 @@ within ws n b =
 -- ---- a chain
 
 module _ (ws : List Wire) (next : List ℕ) where
-  pub chain-within : {code : ℕ} {xs : List Wire} → Chain ws next code xs → code ≤ length ws
-  chain-within end = omega arith
-  chain-within (link l c) = omega arith
-
-  pub chain-nil : {xs : List Wire} → Chain ws next 0 xs → xs ≡ []
-  chain-nil end = refl
-
-  -- the first wire of a chain, and the rest
-  pub record Front (code : ℕ) (xs : List Wire) : Type 0 where
-    pub number : ℕ
-    pub at : code ≡ suc number
-    pub inside : number < length ws
-    pub tail : List Wire
-    pub split : xs ≡ getD ws number noWire ∷ tail
-    pub rest : Chain ws next (getD next number 0) tail
-
-  pub front : {code : ℕ} {xs : List Wire} → Chain ws next code xs → 0 < code → Front code xs
-  front end l = absurd (omega arith)
-  front (link {i} {xs} h c) l = record { number = i; at = refl; inside = h; tail = xs; split = refl; rest = c }
-
   -- a store at a wire before a chain leaves the chain
   pub chain-set : (i v : ℕ) → Later ws next → {code : ℕ} {xs : List Wire} → Chain ws next code xs → (code ≡ 0) ⊎ (suc i < code) → Chain ws (set next i v) code xs
   chain-set i v l end h = end
@@ -99,7 +80,7 @@ module _ (ws : List Wire) (picks : ℕ → Wire → Bool) (first next : List ℕ
         within′ x = pick (ℕ-discrete x i)
           where
             pick : Dec (x ≡ i) → getD next′ x 0 ≤ length ws
-            pick (yes e) = rw (e, at-i) (chain-within ws next (l .chain s low))
+            pick (yes e) = rw (e, at-i) (chain-code (l .chain s low))
             pick (no e) = rw (at-x x e) (l .later .within x)
 
         go : (x : ℕ) → (getD next′ x 0 ≡ 0) ⊎ (suc x < getD next′ x 0)
@@ -188,11 +169,7 @@ module _ (actions details : List ℕ) where
 
   takes-other : (w : Wire) (b : ℕ) → (b ≡ w .source .«node_id» → ⊥) → takes actions details b w ≡ false
   unfolding takes isPort
-  takes-other w b h = rw (ne-eqb (w .source .«node_id») b (λ e. h (sym e))) (go (eqb (getD actions b 0) 3))
-    where
-      go : (x : Bool) → (x && false) ≡ false
-      go true = refl
-      go false = refl
+  takes-other w b h = rw (ne-eqb (w .source .«node_id») b (λ e. h (sym e))) (and-false (eqb (getD actions b 0) 3))
 
   -- a wire that its own source node does not take, no node takes
   takes-not : (w : Wire) → takenBy w ≡ false → (b : ℕ) → takes actions details b w ≡ false
@@ -208,11 +185,7 @@ module _ (actions details : List ℕ) where
     lives-by w b t e = rw e
 
     lives-dead : (w : Wire) → countIn actions counts (w .target) ≡ 0 → (b : ℕ) → lives actions details counts b w ≡ false
-    lives-dead w e b = lives-by w b (takes actions details b w) refl ∙ rw e (go (takes actions details b w))
-      where
-        go : (x : Bool) → (x && false) ≡ false
-        go true = refl
-        go false = refl
+    lives-dead w e b = lives-by w b (takes actions details b w) refl ∙ rw e (and-false (takes actions details b w))
 
   -- one wire w, the i-th, as the code goes
   module _ (ws : List Wire) (first next : List ℕ) (i : ℕ) (h : i < length ws) (f : Within ws) (w : Wire) (e : w ≡ getD ws i noWire) where

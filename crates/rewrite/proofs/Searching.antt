@@ -23,6 +23,7 @@ use Rattle.model.proofs.Maps.{by-bool, _≼_, eqb-same}
 use Rattle.model.proofs.Lists as Lists
 use Rattle.model.proofs.Lists.{all-weaken, or-right, or-false-right}
 use Rattle.wire_index.specs.Chains.{Chain}
+use Rattle.wire_index.proofs.Rises.{absent}
 use Rattle.state.specs.Planned.{targetsIn, shapeOf}
 use Rattle.rewrite.specs.Counts.{noCount, entry, countIn}
 use Rattle.rewrite.specs.Taken.{takenWires}
@@ -64,18 +65,6 @@ member-not x b bs h e = rw (ne-eqb b x (λ q. h (sym q)), e)
 member-rest : (x b : ℕ) (bs : List ℕ) → member x (b ∷ bs) ≡ false → (x ≡ b → ⊥) × (member x bs ≡ false)
 unfolding member
 member-rest x b bs e = (λ q. true≢false (sym (member-head b bs) ∙ ap (λ (y : ℕ). member y (b ∷ bs)) (sym q) ∙ e), or-false-right (eqb b x) _ e)
-
-member-all : (P : ℕ → Type 0) (x : ℕ) (xs : List ℕ) → All P xs → member x xs ≡ true → P x
-member-all P x [] h e = absurd (false≢true (unfold member in e))
-member-all P x (b ∷ bs) h e = go (member-cases x b bs e) (member-all P x bs (h .1))
-  where
-    go : (x ≡ b) ⊎ (member x bs ≡ true) → (member x bs ≡ true → P x) → P x
-    go (inl q) ih = rw q (h .0)
-    go (inr q) ih = ih q
-
--- an element of which none of a list's has the property is not in the list
-apart : (P : ℕ → Type 0) (x : ℕ) (xs : List ℕ) → All P xs → (P x → ⊥) → member x xs ≡ false
-apart P x xs h n = by-bool (member x xs) (λ e. absurd (n (member-all P x xs h e))) (λ e. e)
 
 -- what holds of all but x holds of a list without x
 others : (P Q : ℕ → Type 0) (x : ℕ) → ((y : ℕ) → (y ≡ x → ⊥) → P y → Q y) → (xs : List ℕ) → member x xs ≡ false → All P xs → All Q xs
@@ -169,7 +158,7 @@ module _ (ws : List Wire) (actions details next : List ℕ) where
     -- a Branch that is not on the stack has room there
     pub room : (b : ℕ) → getD actions b 0 ≡ 3 → getD counts b 0 ≡ unseen → depth < maxNodes
     room b h u =
-        let off : member b (s .path) ≡ false = apart (λ x. getD counts x 0 ≡ noCount) b (s .path) pendings (λ e. omega arith) in
+        let off : member b (s .path) ≡ false = absent (λ x. getD counts x 0 ≡ noCount) b (s .path) pendings (λ e. omega arith) in
         omega (arith, Lists.distinct-below maxNodes (b ∷ s .path) (off, distinct (s .path) (s .distinct)) (branch-inside b h, lows), stack-length stack (s .path) depth (s .stacked))
 
     -- ---- a Branch is entered
@@ -196,7 +185,7 @@ module _ (ws : List Wire) (actions details next : List ℕ) where
       not-b x v e l q = let z : getD counts x 0 ≡ unseen = rw q u in omega arith
 
       off₁ : member b (s .path) ≡ false
-      off₁ = apart (λ x. getD counts x 0 ≡ noCount) b (s .path) pendings (λ e. omega arith)
+      off₁ = absent (λ x. getD counts x 0 ≡ noCount) b (s .path) pendings (λ e. omega arith)
 
       listed₁ : (x : ℕ) → getD counts₁ x 0 ≤ unseen
       listed₁ x = same-or-not x b (λ q. rw (q, self₁) (omega arith)) (λ q. rw (other₁ x q) (s .listed x))

@@ -4,7 +4,7 @@ use native.Mathlib.Omega.{arith}
 use mathlib.Core.Path.{_≡_, refl, sym, ap, subst, _∙_}
 use mathlib.Core.Bool.{_&&_}
 use mathlib.Core.Option.{some}
-use mathlib.Core.List.{List, [], _∷_, _++_, map, append-assoc, List·Memᴰ, List·Memᴰ·head, List·Memᴰ·tail, Memᴰ·append-right}
+use mathlib.Core.List.{List, [], _∷_, _++_, append-assoc, List·Memᴰ·head, Memᴰ·append-right, append-nil, Memᴰ·map}
 use lib.Dec.{eqb}
 use lib.ListN.{length, getD, set}
 use borrow.Author.Tests.{eqb-true}
@@ -12,16 +12,15 @@ use Rattle.ir.specs.Limits.{maxNodes}
 use Rattle.ir.specs.Ports.{exec}
 use Rattle.ir.specs.declared.PortRef.{PortRef}
 use Rattle.ir.specs.declared.Wire.{Wire}
+use Rattle.graph.proofs.Roles.{and-left, and-right}
 use Rattle.records.specs.Access.{noWire}
 use Rattle.model.proofs.Maps.{by-bool}
-use Rattle.model.proofs.Lists.{and-left, and-right}
-use Rattle.wire_index.specs.Chains.{Chain}
+use Rattle.wire_index.proofs.Chains.{chain-code, chain-end, chain-step}
 use Rattle.state.specs.Planned.{targetsIn}
 use Rattle.rewrite.specs.Counts.{noCount, countIn}
 use Rattle.rewrite.specs.Taken.{takenWires}
 use Rattle.rewrite.specs.Search.{unseen, unseenIn, sumOf, Walked, Walks, Waits, Frame, Above, Stacked, Searching, Sought, Stepped}
 use Rattle.rewrite.specs.declared.counts.Reached.{Reached}
-use Rattle.rewrite.proofs.Linking.{chain-nil, chain-within, Front, front}
 use Rattle.rewrite.proofs.Totals.{sum-low, sum-on, unseen-less, unseen-same}
 use Rattle.rewrite.proofs.Searching.{branch-inside, room, entered, entered-seen, cleared, top-frames, stored, finished, finished-seen}
 
@@ -40,10 +39,6 @@ no-count actions counts e h =
     by-bool (eqb (getD actions (e .«node_id») 0) 3 && eqb (e .port) exec)
     (λ y. record { branch = eqb-true _ _ (and-left _ _ y); enters = eqb-true _ _ (and-right (eqb (getD actions (e .«node_id») 0) 3) _ y); count = rw (x, y) })
     (λ y. let z : countIn actions counts e ≡ 0 = rw (x, y) in absurd (omega arith)))
-
-map-member : (w : Wire) (ws : List Wire) → List·Memᴰ w ws → List·Memᴰ (w .target) (map (λ w. w .target) ws)
-map-member w (v ∷ ws) (List·Memᴰ·head e) = List·Memᴰ·head (ap (λ (u : Wire). u .target) e)
-map-member w (v ∷ ws) (List·Memᴰ·tail m) = List·Memᴰ·tail (map-member w ws m)
 
 module _ (ws : List Wire) (actions next first counts sums stack : List ℕ) (depth : ℕ) where
   -- the Branch on top of the stack
@@ -71,13 +66,10 @@ module _ (ws : List Wire) (actions next first counts sums stack : List ℕ) (dep
     top-inside = branch-inside ws actions details next first counts sums stack depth s _ (top-frame .branch)
 
     pub top-code : getD first (getD stack (depth - 1) 0) 0 ≤ length ws
-    top-code = chain-within ws next (top-frame .chain)
+    top-code = chain-code (top-frame .chain)
 
     pub top-sum : getD sums (getD stack (depth - 1) 0) 0 < noCount
     top-sum = sum-low actions counts (top-frame .passed) _ (top-frame .sum)
-
-    pub top-pending : getD counts (getD stack (depth - 1) 0) 0 ≡ noCount
-    top-pending = top-frame .pending
 
     module _ (b : ℕ) (at : b ≡ getD stack (depth - 1) 0) (r : Reached) (w : Walks ws actions counts next (getD first b 0) (getD sums b 0) r) where
       here : b ≡ t .branch
@@ -107,12 +99,7 @@ module _ (ws : List Wire) (actions next first counts sums stack : List ℕ) (dep
       -- at the end of its chain: the count is found
       all-sum : r .code ≡ 0 → sumOf actions counts (takenWires ws details b) ≡ some (r .sum)
       all-sum e =
-          let n : along .rest ≡ [] = chain-nil ws next (subst (λ (c : ℕ). Chain ws next c (along .rest)) e (along .chain)) in
-          rw (passed-split ∙ ap (_++_ passed) n ∙ append-nil passed) passed-sum
-        where
-          append-nil : (xs : List Wire) → xs ++ [] ≡ xs
-          append-nil [] = refl
-          append-nil (x ∷ xs) = ap (_∷_ x) (append-nil xs)
+          rw (passed-split ∙ ap (_++_ passed) (chain-end (along .chain) e) ∙ append-nil passed) passed-sum
 
       finish-goes : r .code ≡ 0 → Searching ws actions details first next (set counts b (r .sum)) sums stack (depth - 1)
       finish-goes e = finished ws actions details next first counts sums stack depth s b (t .others) split (depth - 1) (r .sum) (t .below) (w .low) (all-sum e)
@@ -128,12 +115,6 @@ module _ (ws : List Wire) (actions next first counts sums stack : List ℕ) (dep
         wire : Wire
         wire = getD ws (r .code - 1) noWire
 
-        front′ : Front ws next (r .code) (along .rest)
-        front′ = front ws next (along .chain) more
-
-        number : front′ .number ≡ r .code - 1
-        number = omega (arith, front′ .at)
-
         entry′ : Entry actions counts (wire .target)
         unfolding wire
         entry′ = no-count actions counts (wire .target) (w .stops more)
@@ -143,15 +124,11 @@ module _ (ws : List Wire) (actions next first counts sums stack : List ℕ) (dep
         waits =
             record {
               target = wire .target;
-              taken = map-member wire (takenWires ws details b) (rw (passed-split, front′ .split, number) (Memᴰ·append-right passed (List·Memᴰ·head refl)));
+              taken = Memᴰ·map (λ (w : Wire). w .target) {a = wire} {l = takenWires ws details b} (rw (passed-split, chain-step (along .chain) more .split) (Memᴰ·append-right passed (List·Memᴰ·head refl)));
               there = refl;
               enters = entry′ .enters;
               branch = entry′ .branch;
             }
-
-        pub stop-branch : getD actions (getD ws (r .code - 1) noWire .target .«node_id») 0 ≡ 3
-        unfolding wire
-        stop-branch = entry′ .branch
 
         above : Above ws actions details (wire .target .«node_id») (s .path)
         above = subst (Above ws actions details (wire .target .«node_id»)) (sym split) waits

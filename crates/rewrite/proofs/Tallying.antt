@@ -14,6 +14,7 @@ use borrow.Author.Tests.{eqb-true, eqb-false}
 use Rattle.ir.specs.Ports.{exec}
 use Rattle.ir.specs.declared.PortRef.{PortRef}
 use Rattle.ir.specs.declared.Wire.{Wire}
+use Rattle.graph.proofs.Roles.{and-left}
 use Rattle.records.specs.Access.{noWire}
 use Rattle.model.specs.Maps.{Map, isSome}
 use Rattle.model.specs.Offer.{PlanAction}
@@ -21,7 +22,7 @@ use Rattle.model.specs.Outcome.{endlessIndex}
 use Rattle.model.specs.Rewrite.{both, collect, reach, Source, cycles, drops, from, follow, joined, rewriteWire, rewriteWires}
 use Rattle.model.specs.TargetCounts.{cap, cappedLength, plus}
 use Rattle.model.proofs.Maps.{by-bool, none-some}
-use Rattle.model.proofs.Lists.{and-left, or-false-left, or-false-right}
+use Rattle.model.proofs.Lists.{or-false-left, or-false-right}
 use Rattle.model.proofs.TargetCounts.{plus-assoc}
 use Rattle.state.specs.Planned.{shapeOf}
 use Rattle.rewrite.specs.Counts.{noCount, entry, countIn}

@@ -5,7 +5,7 @@ use native.Mathlib.Decide.{ℕ-discrete}
 use mathlib.Core.Path.{_≡_, refl, sym, ap, _∙_}
 use mathlib.Core.Bool.{Bool, true, false, cond, _&&_}
 use mathlib.Core.Option.{Option, none, some}
-use mathlib.Core.List.{List, [], _∷_, _++_, map, List·Memᴰ, List·Memᴰ·cases-cons, List·Memᴰ·not-nil}
+use mathlib.Core.List.{List, [], _∷_, _++_, map, List·Memᴰ, List·Memᴰ·cases-cons, List·Memᴰ·not-nil, map-append}
 use mathlib.Core.Logic.{_⊎_, inl, inr}
 use lib.Dec.{eqb, ltb}
 use lib.ListN.{length, getD, set}
@@ -93,10 +93,6 @@ total-each f (x ∷ xs) a e t i = go (List·Memᴰ·cases-cons i) (plus-both (f 
 
 -- ---- sums over wires
 
-map-append : (xs ys : List Wire) → map (λ w. w .target) (xs ++ ys) ≡ map (λ w. w .target) xs ++ map (λ w. w .target) ys
-map-append [] ys = refl
-map-append (x ∷ xs) ys = ap (_∷_ (x .target)) (map-append xs ys)
-
 module _ (actions counts : List ℕ) where
   pub sum-nil : sumOf actions counts [] ≡ some 0
   unfolding sumOf total
@@ -108,7 +104,7 @@ module _ (actions counts : List ℕ) where
 
   pub sum-append : (xs ys : List Wire) → sumOf actions counts (xs ++ ys) ≡ plus (sumOf actions counts xs) (sumOf actions counts ys)
   unfolding sumOf
-  sum-append xs ys = ap (total _) (map-append xs ys) ∙ total-append _ (map (λ w. w .target) xs) (map (λ w. w .target) ys)
+  sum-append xs ys = ap (total _) (map-append _ xs ys) ∙ total-append _ (map (λ w. w .target) xs) (map (λ w. w .target) ys)
 
   -- none so far
   pub sum-none : (v : ℕ) → v < noCount → plus (some v) (sumOf actions counts []) ≡ some v

@@ -12,10 +12,10 @@ use Rattle.ir.specs.declared.Wire.{Wire}
 use Rattle.records.specs.Access.{noWire}
 use Rattle.model.specs.TargetCounts.{cap}
 use Rattle.wire_index.specs.Chains.{Chain}
+use Rattle.wire_index.proofs.Chains.{chain-step}
 use Rattle.rewrite.specs.Counts.{noCount, countIn}
 use Rattle.rewrite.specs.Taken.{Later}
 use Rattle.rewrite.specs.Search.{Walked, Walks}
-use Rattle.rewrite.proofs.Linking.{Front, front}
 use Rattle.rewrite.proofs.Totals.{sum-none, sum-one}
 
 module _ (ws : List Wire) (actions counts next : List ℕ) where
@@ -36,13 +36,13 @@ module _ (ws : List Wire) (actions counts next : List ℕ) where
       go : (xs : List Wire) → Chain ws next code xs → Walked ws actions counts next xs sum (record { code = getD next i 0; sum = cap (total + c) })
       go xs ch =
           let v = w .along xs ch in
-          let f : Front ws next at (v .rest) = front ws next (v .chain) (omega arith) in
-          let n : f .number ≡ i = omega (arith, f .at) in
+          let f = chain-step (v .chain) (omega arith) in
+          let n : at - 1 ≡ i = omega arith in
           record {
             passed = v .passed ++ (getD ws i noWire ∷ []);
-            rest = f .tail;
-            split = v .split ∙ ap (_++_ (v .passed)) (f .split ∙ rw n refl) ∙ sym (append-assoc (v .passed) (getD ws i noWire ∷ []) (f .tail));
-            chain = subst (λ (x : ℕ). Chain ws next (getD next x 0) (f .tail)) n (f .rest);
+            rest = f .rest;
+            split = v .split ∙ ap (_++_ (v .passed)) (f .split ∙ rw n refl) ∙ sym (append-assoc (v .passed) (getD ws i noWire ∷ []) (f .rest));
+            chain = subst (λ (x : ℕ). Chain ws next (getD next x 0) (f .rest)) n (f .chain);
             sums = sum-one actions counts sum c total (v .passed) (getD ws i noWire) (v .sums) q h;
           }
 

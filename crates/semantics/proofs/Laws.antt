@@ -18,7 +18,7 @@ use Rattle.whole.specs.declared.OptionFloat.{OptionFloat}
 use Rattle.value.specs.declared.Value.{Value}
 use Rattle.value.specs.declared.Operand.{Operand}
 use Rattle.value.specs.declared.OptionValue.{OptionValue}
-use Rattle.conversions.specs.Conversions.{truthyOf, scalarOf, mathInOf, asFloatOf, asIntOf, onlyIntOf, givenInt}
+use Rattle.conversions.specs.Conversions.{truthyOf, mathInOf, asFloatOf, asIntOf, onlyIntOf, givenInt}
 use Rattle.conversions.specs.declared.MathIn.{MathIn}
 use Rattle.comparison.specs.Comparison as C
 use Rattle.comparison.specs.declared.OptionBool.{OptionBool}

@@ -1,6 +1,6 @@
 -- Add to Modulo of operands that are read as whole numbers.
 use Prim.Native.Nat.{ℕ}
-use mathlib.Core.Path.{_≡_, refl, sym, ap, _∙_}
+use mathlib.Core.Path.{_≡_, sym, ap, _∙_}
 use mathlib.Core.Bool.{false}
 use lib.IntN.{ℤ}
 use Rattle.whole.specs.declared.OptionInt.{OptionInt}

@@ -1,5 +1,5 @@
 -- Document 01's starred cases, by class number: operands and what the gate gives.
-use Prim.Native.Nat.{ℕ, _-_, _^_}
+use Prim.Native.Nat.{ℕ, _^_}
 use mathlib.Core.List.{List, [], _∷_}
 use lib.IntN.{ℤ, pos, negℤ}
 use lib.Ieee.{binary64, ofBits}

@@ -1,11 +1,10 @@
 -- What a verdict says, by what `decode` reports.
-use mathlib.Core.Path.{_≡_, refl, sym, ap, _∙_}
+use mathlib.Core.Path.{_≡_, refl, sym, ap}
 use mathlib.Core.List.{List}
 use Prim.Native.Nat.{ℕ}
 use native.Mathlib.Omega.{arith}
-use Rattle.graph.specs.Graph.{countsOf}
 use Rattle.graph.specs.Decode.{Verdict, accepted, refused, decode, graphOf}
-use Rattle.graph.specs.Refusals.{counts, refusal, reported}
+use Rattle.graph.specs.Refusals.{refusal, reported}
 use Rattle.graph.specs.declared.Counts.{Counts}
 use Rattle.records.specs.Access.{Accepts}
 use Rattle.model.specs.Demands.{foldOf}

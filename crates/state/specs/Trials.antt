@@ -1,12 +1,11 @@
 -- What each case of `Trial` offers a node.
 use Prim.Native.Nat.{ℕ, _<_}
-use mathlib.Core.Path.{_≡_}
 use mathlib.Core.Option.{none, some}
 use lib.ListN.{length, getD}
 use Rattle.graph.specs.Graph.{Graph}
 use Rattle.records.specs.Access.{noWire}
 use Rattle.model.specs.Inputs.{targets}
-use Rattle.model.specs.Offer.{PlanAction, Offer, noOffer, valueOffer, literalOffer}
+use Rattle.model.specs.Offer.{Offer, noOffer, valueOffer, literalOffer}
 use Rattle.model.specs.Offer as Plan
 use Rattle.state.specs.declared.Trial.{Trial}
 use Rattle.state.specs.declared.Trial.the-variants.{Nothing, Known, BecomeLiteral, ShortCircuit, ShortCircuitKnown, Truncate}

@@ -1,5 +1,5 @@
 -- The cells of rows.
-use Prim.Native.Nat.{ℕ, _+_, _*_, _/_, _≤_, _<_}
+use Prim.Native.Nat.{ℕ, _+_, _/_, _≤_, _<_}
 use native.Mathlib.Numerals.{add-one}
 use native.Mathlib.Omega.{arith}
 use mathlib.Core.Path.{_≡_, refl, sym, ap, subst, _∙_}
@@ -10,6 +10,7 @@ use lib.ListN.{length, getD, set, take, replicate, length-set, length-replicate,
 use lib.Seq.{take-suc, take-all, getD-set-same, getD-set-other}
 use borrow.Author.Tests.{ltb-true, leb-true, eqb-true, eq-eqb}
 use Rattle.graph.specs.declared.Row.{Row}
+use Rattle.graph.proofs.Roles.{and-left, and-right}
 use Rattle.records.specs.Access.{rowsOf, noRow}
 use Rattle.table.specs.Table.{covers, isRow, hasCell, cellOf, Cells}
 use Rattle.records.proofs.Runs.{rows-length}
@@ -21,14 +22,6 @@ covers-snoc (y ∷ xs) x row =
     ap (λ (t : Bool). isRow y row || t) (covers-snoc xs x row) ∙ sym (or-assoc (isRow y row) (covers xs row) (isRow x row))
 
 -- ---- a row with a cell
-
-and-left : (a b : Bool) → (a && b) ≡ true → a ≡ true
-and-left true b e = refl
-and-left false b e = e
-
-and-right : (a b : Bool) → (a && b) ≡ true → b ≡ true
-and-right true b e = e
-and-right false b e = absurd (false≢true e)
 
 pub record Listed (r : Row) : Type 0 where
   pub class : r .class < 42

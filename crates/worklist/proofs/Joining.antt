@@ -3,7 +3,7 @@ use mathlib.Core.Path.{_≡_, refl, sym, ap, subst, _∙_}
 use mathlib.Core.Bool.{Bool, true, false, cond, _&&_, _||_, false≢true}
 use mathlib.Core.Logic.{inl, inr}
 use mathlib.Core.List.{List, [], _∷_, _++_, map}
-use Prim.Native.Nat.{ℕ, suc, _+_, _-_, _<_, _≤_}
+use Prim.Native.Nat.{ℕ, _+_, _-_, _<_, _≤_}
 use native.Mathlib.Omega.{arith}
 use lib.Dec.{eqb}
 use lib.ListN.{length, getD, set, length-append}
@@ -19,6 +19,7 @@ use Rattle.model.proofs.Maps.{Same, same?}
 use Rattle.model.proofs.Lists.{or-right}
 use Rattle.state.specs.Held.{knownOf}
 use Rattle.wire_index.specs.Chains.{Chain, end, link, enters, Leaving, Consumers}
+use Rattle.wire_index.proofs.Chains.{Step, chain-step, chain-end}
 use Rattle.worklist.specs.declared.consumers.Joined.{Joined}
 use Rattle.worklist.specs.declared.consumers.Joined.the-variants.{Waiting, NoPlace}
 use Rattle.worklist.specs.Queue.{Pushed, Queued}
@@ -65,21 +66,6 @@ entered : (c : ℕ) (ws : List Wire) → member c (targetsOf ws) ≡ any (enters
 unfolding member any
 entered c [] = refl
 entered c (w ∷ ws) = ap (λ (b : Bool). enters c w || b) (entered c ws)
-
--- the first wire of a chain that is not at its end, and the chain behind it
-pub record Linked (ws : List Wire) (next : List ℕ) (code : ℕ) (out : List Wire) : Type 0 where
-  pub rest : List Wire
-  pub all : out ≡ getD ws (code - 1) noWire ∷ rest
-  pub inside : code - 1 < length ws
-  pub chain : Chain ws next (getD next (code - 1) 0) rest
-
-linked : {ws : List Wire} {next : List ℕ} {code : ℕ} {out : List Wire} → Chain ws next code out → (code ≡ 0 → ⊥) → Linked ws next code out
-linked end h = absurd (h refl)
-linked (link {i} {xs} l c) h = let e : suc i - 1 ≡ i = omega arith in record { rest = xs; all = rw e; inside = rw e l; chain = rw e c }
-
-ended : {ws : List Wire} {next : List ℕ} {code : ℕ} {out : List Wire} → Chain ws next code out → code ≡ 0 → out ≡ []
-ended end e = refl
-ended (link l c) e = let bad : ⊥ = omega arith in absurd bad
 
 -- a wire of a chain enters a node
 within : {ws : List Wire} {next : List ℕ} {code n : ℕ} {out : List Wire} → Bounded ws n → Chain ws next code out → (c : ℕ) → member c (targetsOf out) ≡ true → c < n
@@ -155,34 +141,34 @@ module _ {wires first next kinds : List ℕ} {n head : ℕ} {marks₀ : List Boo
         record {
           law = λ g words queue p b q.
               let h = w .law words queue q in
-              let whole : h .queue ≡ queue ++ joiners g (knownOf kinds words) queue n = sym (ap (λ (ws : List Wire). joinAll (knownOf kinds words) (h .queue) (targetsOf ws)) (ended (w .chain) e)) ∙ h .same ∙ modelled g words queue p b in
+              let whole : h .queue ≡ queue ++ joiners g (knownOf kinds words) queue n = sym (ap (λ (ws : List Wire). joinAll (knownOf kinds words) (h .queue) (targetsOf ws)) (chain-end (w .chain) e)) ∙ h .same ∙ modelled g words queue p b in
               rw (← whole) (h .queued);
         }
 
     module _ (there : code ≡ 0 → ⊥) where
-      here : Linked (wiresOf wires) next code (w .out)
-      here = linked (w .chain) there
+      here : Step (wiresOf wires) next code (w .out)
+      here = chain-step (w .chain) (omega arith)
 
       -- there is a wire at the code, so some were left
       pub walk-wire : code - 1 < length (wiresOf wires)
-      walk-wire = here .inside
+      walk-wire = here .within
 
       pub walk-left : 0 < left
-      walk-left = omega (arith, ap length (here .all), w .few)
+      walk-left = omega (arith, ap length (here .split), w .few)
 
       pub walk-next : code - 1 < maxWires
-      walk-next = omega (arith, here .inside, w .chained .bounded .few-wires)
+      walk-next = omega (arith, here .within, w .chained .bounded .few-wires)
 
       module _ {wire : Wire} (at : wire ≡ getD (wiresOf wires) (code - 1) noWire) where
         abbrev c : ℕ
         c = wire .target .«node_id»
 
         pub walk-target : c < maxNodes
-        walk-target = rw at (omega (arith, w .chained .bounded .named (code - 1) (here .inside) .target, w .chained .bounded .few-nodes))
+        walk-target = rw at (omega (arith, w .chained .bounded .named (code - 1) (here .within) .target, w .chained .bounded .few-nodes))
 
         onwards : (words : List ℕ) (queue whole : List ℕ) → joinAll (knownOf kinds words) queue (targetsOf (w .out)) ≡ whole → joinAll (knownOf kinds words) (joinOne (knownOf kinds words) queue c) (targetsOf (here .rest)) ≡ whole
         unfolding joinAll
-        onwards words queue whole e = rw at (sym (ap (λ (ws : List Wire). joinAll (knownOf kinds words) queue (targetsOf ws)) (here .all)) ∙ e)
+        onwards words queue whole e = rw at (sym (ap (λ (ws : List Wire). joinAll (knownOf kinds words) queue (targetsOf ws)) (here .split)) ∙ e)
 
         -- the walk goes on
         pub walk-on : {marks' : List Bool} {places' : List ℕ} {joined : Joined} {more code' : ℕ} → OneJoined kinds c head marks places total marks' places' joined → joined ≡ Waiting more → code' ≡ getD next (code - 1) 0 → Walking wires first next kinds n head marks₀ places₀ count marks' places' more code' (left - 1)
@@ -191,7 +177,7 @@ module _ {wires first next kinds : List ℕ} {n head : ℕ} {marks₀ : List Boo
               chained = w .chained;
               out = here .rest;
               chain = rw e (here .chain);
-              few = omega (arith, ap length (here .all), w .few);
+              few = omega (arith, ap length (here .split), w .few);
               law = λ words queue q.
                   let h = w .law words queue q in
                   record { queue = joinOne (knownOf kinds words) (h .queue) c; queued = rw j at (o .law words (h .queue) (h .queued)); same = onwards words (h .queue) _ (h .same) };

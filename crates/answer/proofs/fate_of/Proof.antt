@@ -1,11 +1,5 @@
 -- `answer::fate_of` meets its contract.
-use Prim.Native.Nat.{ℕ, _+_, _-_, _*_, _≤_, _<_}
-use native.Mathlib.Omega.{arith}
-use mathlib.Core.Path.{_≡_, refl, sym, ap, ap₂, _∙_}
-use mathlib.Core.Option.{Option, none, some}
-use mathlib.Core.List.{List, [], _∷_, _++_}
-use lib.ListN.{length, getD, length-append}
-use borrow.Author.Needs.{needs}
+use mathlib.Core.Path.{refl, sym, ap}
 use borrow.Author.Tests.{ne-eqb}
 use mathlib.Core.Bool.{Bool, cond}
 use Rattle.answer.proofs.fate_of.Statement.{statement}

@@ -1,14 +1,10 @@
 -- `answer::nodes_size` meets its contract.
-use Prim.Native.Nat.{ℕ, _+_, _-_, _*_, _≤_, _<_}
+use Prim.Native.Nat.{ℕ, _+_, _-_, _*_, _≤_}
 use native.Mathlib.Omega.{arith}
-use mathlib.Core.Path.{_≡_, refl, sym, ap, ap₂, _∙_}
-use mathlib.Core.Option.{Option, none, some}
-use mathlib.Core.List.{List, [], _∷_, _++_}
-use lib.ListN.{length, getD, length-append}
+use mathlib.Core.Path.{_≡_}
+use mathlib.Core.List.{List}
+use lib.ListN.{length}
 use borrow.Author.Needs.{needs}
-use borrow.Author.Tests.{ne-eqb}
-use Rattle.model.specs.Maps.{upTo}
-use Rattle.model.specs.Answer.{each}
 use Rattle.state.specs.Held.{knownOf}
 use Rattle.answer.specs.Nodes.{knownRecords, fateRecords}
 use Rattle.answer.proofs.Fill.{sizes-start, sizes-next}

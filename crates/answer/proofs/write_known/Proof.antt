@@ -1,15 +1,8 @@
 -- `answer::write_known` meets its contract.
-use Prim.Native.Nat.{ℕ, _+_, _-_, _*_, _≤_, _<_}
 use native.Mathlib.Omega.{arith}
-use mathlib.Core.Path.{_≡_, refl, sym, ap, ap₂, _∙_, subst}
-use mathlib.Core.Option.{Option, none, some}
-use mathlib.Core.List.{List, [], _∷_, _++_}
-use lib.ListN.{length, getD, length-append}
+use mathlib.Core.Path.{sym, ap, _∙_}
+use lib.ListN.{length}
 use borrow.Author.Needs.{needs}
-use denote.Ref.{now}
-use Rattle.encoding.specs.Numbers.{bytesOf, Written}
-use Rattle.encoding.specs.Values.{kindOf, headBytes, valueBytes, propertyBytes}
-use Rattle.encoding.proofs.Splices.{written-length, written-more}
 use Rattle.model.specs.Inputs.{optional}
 use Rattle.answer.proofs.Fill.{written-none}
 use Rattle.answer.proofs.NodeSizes.{bytes-none, bytes-some}

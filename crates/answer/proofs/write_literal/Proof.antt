@@ -1,17 +1,14 @@
 -- `answer::write_literal` meets its contract.
-use Prim.Native.Nat.{ℕ, _+_, _-_, _*_, _≤_, _<_}
+use Prim.Native.Nat.{_+_, _≤_}
 use native.Mathlib.Omega.{arith}
-use mathlib.Core.Path.{_≡_, refl, sym, ap, ap₂, _∙_, subst}
-use mathlib.Core.Option.{Option, none, some}
-use mathlib.Core.List.{List, [], _∷_, _++_}
-use lib.ListN.{length, getD, length-append}
+use lib.ListN.{length}
 use borrow.Author.Needs.{needs}
 use denote.Ref.{now}
-use Rattle.encoding.specs.Numbers.{bytesOf, Written}
-use Rattle.encoding.specs.Values.{kindOf, headBytes, valueBytes, propertyBytes}
+use Rattle.encoding.specs.Numbers.{bytesOf}
+use Rattle.encoding.specs.Values.{valueBytes}
 use Rattle.encoding.proofs.Splices.{written-length, written-more}
 use Rattle.answer.specs.Nodes.{literalFate}
-use Rattle.answer.proofs.NodeSizes.{kind-low, head-size}
+use Rattle.answer.proofs.NodeSizes.{kind-low}
 use Rattle.answer.proofs.write_literal.Statement.{statement}
 use Rattle.answer.proofs.write_literal.Tie as tie
 

@@ -1,11 +1,10 @@
 -- `emit::descend` meets its contract.
-use mathlib.Core.Path.{_≡_, refl, sym, ap, _∙_}
-use Prim.Native.Nat.{ℕ, _-_, _≤_, _<_}
+use mathlib.Core.Path.{ap}
+use Prim.Native.Nat.{ℕ, _-_}
 use native.Mathlib.Omega.{arith}
 use borrow.Author.Needs.{needs}
-use lib.ListN.{getD}
 use Rattle.ir.specs.declared.Wire.{Wire}
-use Rattle.records.specs.Access.{wiresOf, noWire}
+use Rattle.records.specs.Access.{wiresOf}
 use Rattle.emit.proofs.Stack.{Tracks, track-start, track-low, stepped, track-step, track-end}
 use Rattle.emit.proofs.descend.Statement.{statement}
 use Rattle.emit.proofs.descend.Tie as tie

@@ -1,13 +1,11 @@
 -- `emit::write_all` meets its contract.
-use mathlib.Core.Path.{_≡_, refl, sym, ap, ap₂, _∙_, subst}
-use mathlib.Core.List.{List, []}
-use Prim.Native.Nat.{ℕ, _+_, _-_, _*_, _/_, _≤_, _<_}
+use mathlib.Core.Path.{_≡_}
+use Prim.Native.Nat.{ℕ, _-_}
 use native.Mathlib.Omega.{arith}
 use lib.ListN.{length, getD, length-replicate}
 use borrow.Author.Needs.{needs}
 use denote.Ref.{now}
 use Rattle.ir.specs.Limits.{maxWires}
-use Rattle.encoding.specs.Numbers.{Written}
 use Rattle.encoding.specs.Wires.{wireBytes}
 use Rattle.records.specs.Access.{wiresOf, noWire}
 use Rattle.records.proofs.Runs.{wires-length}

@@ -1,22 +1,18 @@
 -- `emit::write_planned` meets its contract.
-use mathlib.Core.Path.{_≡_, refl, sym, ap, ap₂, _∙_, subst}
-use mathlib.Core.List.{List, []}
-use Prim.Native.Nat.{ℕ, _+_, _*_, _≤_, _<_}
+use mathlib.Core.Path.{_≡_, sym, ap, _∙_}
+use mathlib.Core.List.{List}
+use Prim.Native.Nat.{ℕ}
 use native.Mathlib.Omega.{arith}
-use lib.ListN.{length, getD}
+use lib.ListN.{getD}
 use borrow.Author.Needs.{needs}
 use denote.Ref.{now}
 use Rattle.ir.specs.declared.Wire.{Wire}
-use Rattle.encoding.specs.Numbers.{Written}
-use Rattle.encoding.specs.Wires.{wireBytes}
 use Rattle.records.specs.Access.{wiresOf, noWire}
-use Rattle.model.specs.Answer.{each}
 use Rattle.model.specs.Rewrite.{follow}
 use Rattle.state.specs.Planned.{shapeOf}
 use Rattle.rewrite.specs.Counts.{countIn}
 use Rattle.rewrite.specs.Sources.{originOf}
-use Rattle.answer.proofs.Fill.{written-none}
-use Rattle.emit.specs.Emit.{Prepared, becomes}
+use Rattle.emit.specs.Emit.{Prepared}
 use Rattle.emit.proofs.Writing.{zero-becomes, origin-cycles, origin-drops, Fanned, origin-from, written-nothing, traced}
 use Rattle.emit.proofs.write_planned.Statement.{statement}
 use Rattle.emit.proofs.write_planned.Tie as tie

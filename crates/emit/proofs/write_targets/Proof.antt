@@ -1,12 +1,12 @@
 -- `emit::write_targets` meets its contract.
-use mathlib.Core.Path.{_≡_, refl, sym, ap, _∙_}
+use mathlib.Core.Path.{refl, ap}
 use mathlib.Core.List.{List}
-use Prim.Native.Nat.{ℕ, _-_, _≤_, _<_}
+use Prim.Native.Nat.{ℕ}
 use native.Mathlib.Omega.{arith}
 use borrow.Author.Needs.{needs}
-use lib.ListN.{length, getD}
-use Rattle.records.specs.Access.{wiresOf, noWire}
-use Rattle.emit.specs.Emit.{Counts, Descends}
+use lib.ListN.{length}
+use Rattle.records.specs.Access.{wiresOf}
+use Rattle.emit.specs.Emit.{Counts}
 use Rattle.emit.proofs.Stack.{upward}
 use Rattle.emit.proofs.Fanning.{Going, targetsOf, going-start, out-long, leaf-room, going-on, going-end, popped-long}
 use Rattle.emit.proofs.write_targets.Statement.{statement}

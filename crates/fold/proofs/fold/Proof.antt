@@ -1,7 +1,6 @@
 -- `fold::fold` meets its contract.
 use mathlib.Core.Path.{sym, ap}
 use lib.Seq.{length-take-le}
-use Prim.Native.Nat.{_≤_}
 use native.Mathlib.Omega.{arith}
 use Rattle.folding.specs.declared.Outcome.{Outcome}
 use Rattle.folding.specs.Entry.{numbers}

@@ -1,12 +1,5 @@
 -- `folding::fold` meets its contract.
-use mathlib.Core.Path.{_≡_, refl, sym, ap, ap₂, _∙_, subst}
-use mathlib.Core.Bool.{true≢false}
-use mathlib.Core.List.{List}
-use Prim.Native.Nat.{ℕ, _+_, _*_, _≤_, _<_}
-use native.Mathlib.Omega.{arith}
-use lib.ListN.{length, getD}
 use borrow.Author.Needs.{needs}
-use denote.Ref.{now}
 use Rattle.folding.proofs.Kept.{fits-kept, refusals-kept, offset-kept, order-kept, answer-kept, pops-kept, finite-kept, clean-kept, never-full-kept}
 use Rattle.folding.proofs.fold.Statement.{statement}
 use Rattle.folding.proofs.fold.Tie as tie

@@ -1,16 +1,9 @@
 -- `folding::fold_graph` meets its contract.
-use mathlib.Core.Path.{_≡_, refl, sym, ap, ap₂, _∙_, subst}
-use mathlib.Core.Bool.{true≢false}
+use mathlib.Core.Path.{subst}
 use mathlib.Core.List.{List}
-use Prim.Native.Nat.{ℕ, _+_, _*_, _≤_, _<_}
-use native.Mathlib.Omega.{arith}
-use lib.ListN.{length, getD}
 use borrow.Author.Needs.{needs}
-use denote.Ref.{now}
 use Rattle.ir.specs.declared.Wire.{Wire}
-use Rattle.records.specs.Access.{Bounded, wiresOf}
 use Rattle.wire_index.specs.Chains.{Feeds, Consumers}
-use Rattle.graph.specs.Decode.{graphOf}
 use Rattle.folding.proofs.Stages.{bounded-at}
 use Rattle.folding.proofs.fold_graph.Statement.{statement}
 use Rattle.folding.proofs.fold_graph.Tie as tie

@@ -1,14 +1,7 @@
 -- `folding::fold_input` meets its contract.
-use mathlib.Core.Path.{_≡_, refl, sym, ap, ap₂, _∙_, subst}
-use mathlib.Core.Bool.{true≢false}
-use mathlib.Core.List.{List}
-use Prim.Native.Nat.{ℕ, _+_, _*_, _≤_, _<_}
-use native.Mathlib.Omega.{arith}
-use lib.ListN.{length, getD}
+use mathlib.Core.Path.{sym, ap, ap₂, _∙_}
 use borrow.Author.Needs.{needs}
-use denote.Ref.{now}
 use Rattle.graph.specs.Refusals.{reportOf, refusal}
-use Rattle.graph.specs.declared.Decoded.{Decoded}
 use Rattle.folding.proofs.Stages.{refuse-decode}
 use Rattle.folding.proofs.fold_input.Statement.{statement}
 use Rattle.folding.proofs.fold_input.Tie as tie

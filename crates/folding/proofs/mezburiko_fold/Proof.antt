@@ -1,5 +1,5 @@
 -- `folding::mezburiko_fold` meets its contract.
-use mathlib.Core.Path.{_≡_, refl, sym, ap, _∙_}
+use mathlib.Core.Path.{sym, ap, _∙_}
 use borrow.Author.Needs.{needs}
 use Rattle.folding.specs.Entry.{numbers}
 use Rattle.folding.proofs.mezburiko_fold.Statement.{statement}

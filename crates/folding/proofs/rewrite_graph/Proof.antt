@@ -1,13 +1,9 @@
 -- `folding::rewrite_graph` meets its contract.
-use mathlib.Core.Path.{_≡_, refl, sym, ap, ap₂, _∙_, subst}
-use mathlib.Core.Bool.{true≢false}
-use mathlib.Core.List.{List}
-use Prim.Native.Nat.{ℕ, _+_, _*_, _≤_, _<_}
+use mathlib.Core.Path.{ap, subst}
+use Prim.Native.Nat.{ℕ, _+_, _*_}
 use native.Mathlib.Omega.{arith}
-use lib.ListN.{length, getD}
 use borrow.Author.Needs.{needs}
 use denote.Ref.{now}
-use Rattle.ir.specs.declared.Wire.{Wire}
 use Rattle.records.specs.Access.{wiresOf}
 use Rattle.state.specs.Planned.{shapeOf}
 use Rattle.rewrite.specs.Tallied.{Tallied}

@@ -1,14 +1,8 @@
 -- `folding::run_worklist` meets its contract.
-use mathlib.Core.Path.{_≡_, refl, sym, ap, ap₂, _∙_, subst}
-use mathlib.Core.Bool.{true≢false}
-use mathlib.Core.List.{List}
-use Prim.Native.Nat.{ℕ, _+_, _*_, _≤_, _<_}
-use native.Mathlib.Omega.{arith}
-use lib.ListN.{length, getD}
+use mathlib.Core.Path.{subst}
 use borrow.Author.Needs.{needs}
 use denote.Ref.{now}
 use Rattle.graph.specs.Decode.{graphOf}
-use Rattle.model.proofs.QueueLength.{always-joins}
 use Rattle.worklist.specs.Turns.{Ran}
 use Rattle.worklist.specs.declared.Worked.{Worked}
 use Rattle.folding.proofs.Stages.{reads-at, never-full-at}

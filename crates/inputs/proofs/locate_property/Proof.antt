@@ -1,19 +1,15 @@
 -- `inputs::locate_property` meets its contract.
 use Prim.Native.Nat.{ℕ, _+_, _*_}
 use native.Mathlib.Omega.{arith}
-use mathlib.Core.Path.{_≡_, sym, ap, subst, _∙_}
-use mathlib.Core.Option.{Option}
+use mathlib.Core.Path.{_≡_, ap, _∙_}
 use lib.ListN.{getD}
 use denote.Ref.{now}
-use Rattle.value.specs.declared.Value.{Value}
 use Rattle.encoding.specs.Numbers.{byte}
 use Rattle.graph.specs.Layout.{sizeBy}
 use Rattle.graph.specs.Index.{slot, entryValue, IsProperty}
 use Rattle.graph.proofs.Added.{entry-none, entry-some}
 use Rattle.graph.proofs.Roles.{property-kind, size-by}
-use Rattle.model.specs.Inputs.{optional, property, orProperty}
-use Rattle.model.specs.declared.Resolved.{Resolved}
-use Rattle.inputs.specs.Inputs.{Locates}
+use Rattle.model.specs.Inputs.{optional, property}
 use Rattle.inputs.proofs.Locations.{unwired, at-property}
 use borrow.Author.Needs.{needs}
 use Rattle.inputs.proofs.locate_property.Statement.{statement}

@@ -1,6 +1,6 @@
 -- `inputs::locate_source` meets its contract.
-use Prim.Native.Nat.{ℕ, _*_}
-use mathlib.Core.Path.{_≡_, refl, sym, ap, subst, _∙_}
+use Prim.Native.Nat.{ℕ}
+use mathlib.Core.Path.{_≡_, ap, _∙_}
 use mathlib.Core.Option.{Option}
 use lib.ListN.{getD}
 use denote.Ref.{now}
@@ -8,8 +8,7 @@ use Rattle.ir.specs.declared.Wire.{Wire}
 use Rattle.value.specs.declared.Value.{Value}
 use Rattle.records.specs.Access.{wiresOf, noWire}
 use Rattle.model.specs.Inputs.{carried}
-use Rattle.model.specs.declared.Resolved.{Resolved}
-use Rattle.state.specs.Held.{knownOf, held}
+use Rattle.state.specs.Held.{knownOf}
 use Rattle.inputs.specs.Inputs.{Locates}
 use Rattle.inputs.specs.declared.Located.{Located}
 use Rattle.inputs.proofs.Locations.{unknown-source, at-source}

@@ -5,7 +5,6 @@ use Rattle.graph.specs.declared.Row.{Row}
 use Rattle.inputs.proofs.Ports.{few}
 use Rattle.inputs.proofs.Conditions.{condition-covered, condition-uncovered}
 use Rattle.inputs.proofs.Locations.{row-listed}
-use Rattle.table.proofs.Search.{Listed}
 use borrow.Author.Needs.{needs}
 use Rattle.inputs.proofs.resolve_condition.Statement.{statement}
 use Rattle.inputs.proofs.resolve_condition.Tie as tie

@@ -2,7 +2,6 @@
 use native.Mathlib.Omega.{arith}
 use mathlib.Core.Path.{sym, ap, _∙_}
 use Rattle.conversions.specs.Conversions.{truthyOf}
-use Rattle.inputs.specs.Inputs.{scalarOperand}
 use Rattle.inputs.proofs.Locations.{unwired-operand}
 use borrow.Author.Needs.{needs}
 use Rattle.inputs.proofs.truthy_at.Statement.{statement}

@@ -1,6 +1,6 @@
 -- `resolve::try_resolve` meets its contract.
 use native.Mathlib.Omega.{arith}
-use mathlib.Core.Path.{_∙_, ap, refl}
+use mathlib.Core.Path.{_∙_, ap}
 use Rattle.ir.specs.Classes.{hasRows}
 use Rattle.value.specs.declared.OptionValue.{OptionValue}
 use Rattle.inputs.proofs.Ports.{wired, few, wired-port}

@@ -1,6 +1,6 @@
 -- `semantics::compare` meets its contract.
 use Prim.Native.Nat.{ℕ, zero, suc, _+_, _-_, _≤_}
-use mathlib.Core.Path.{_≡_, _∙_, refl, sym, subst}
+use mathlib.Core.Path.{_≡_, _∙_, refl, subst}
 use mathlib.Core.Bool.{cond, _||_}
 use native.Mathlib.Omega.{arith}
 use lib.Dec.{eqb, leb}

@@ -1,8 +1,6 @@
 -- `stages::graph_pops` meets its contract.
-use mathlib.Core.Path.{_≡_, refl, sym, ap, ap₂, _∙_, subst}
+use mathlib.Core.Path.{subst}
 use mathlib.Core.List.{List}
-use borrow.Author.Needs.{needs}
-use denote.Ref.{now}
 use Rattle.ir.specs.declared.Wire.{Wire}
 use Rattle.wire_index.specs.Chains.{Feeds, Consumers}
 use Rattle.folding.proofs.Stages.{bounded-at}

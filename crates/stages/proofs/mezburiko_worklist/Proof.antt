@@ -1,9 +1,7 @@
 -- `stages::mezburiko_worklist` meets its contract.
-use mathlib.Core.Path.{_≡_, refl, sym, ap, ap₂, _∙_, subst}
-use mathlib.Core.List.{List}
+use mathlib.Core.Path.{sym, ap, _∙_}
 use borrow.Author.Needs.{needs}
-use denote.Ref.{now}
-use Rattle.graph.specs.Refusals.{reportOf, refusal, placeOf}
+use Rattle.graph.specs.Refusals.{reportOf, refusal}
 use Rattle.stages.proofs.Verdicts.{accepted-says, refused-says}
 use Rattle.stages.proofs.mezburiko_worklist.Statement.{statement}
 use Rattle.stages.proofs.mezburiko_worklist.Tie as tie

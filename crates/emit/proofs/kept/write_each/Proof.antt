@@ -1,12 +1,9 @@
 -- `emit::kept::write_each` meets its contract.
 use Prim.Native.Nat.{_-_}
 use native.Mathlib.Omega.{arith}
-use mathlib.Core.Path.{subst}
-use mathlib.Core.List.{List}
 use lib.ListN.{getD}
 use borrow.Author.Needs.{needs}
 use denote.Ref.{now}
-use Rattle.encoding.specs.Numbers.{Written}
 use Rattle.encoding.specs.Wires.{wireBytes}
 use Rattle.records.specs.Access.{wiresOf, noWire}
 use Rattle.records.proofs.Runs.{wires-length}

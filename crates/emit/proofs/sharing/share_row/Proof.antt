@@ -1,5 +1,4 @@
 -- `emit::sharing::share_row` meets its contract.
-use Prim.Native.Nat.{_≤_}
 use native.Mathlib.Omega.{arith}
 use borrow.Author.Needs.{needs}
 use Rattle.records.specs.Access.{wiresOf}

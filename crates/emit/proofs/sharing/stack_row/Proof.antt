@@ -1,11 +1,9 @@
 -- `emit::sharing::stack_row` meets its contract.
-use Prim.Native.Nat.{ℕ, _-_, _≤_, _<_}
+use Prim.Native.Nat.{_-_, _≤_, _<_}
 use native.Mathlib.Omega.{arith}
-use mathlib.Core.Bool.{_&&_}
 use lib.Dec.{ltb}
 use borrow.Author.Tests.{ltb-true}
-use borrow.Author.Needs.{needs}
-use Rattle.model.proofs.Lists.{and-left, and-right}
+use Rattle.graph.proofs.Roles.{and-left, and-right}
 use Rattle.emit.specs.Emit.{Branches}
 use Rattle.emit.proofs.SharedChains.{stacked}
 use Rattle.emit.proofs.sharing.stack_row.Statement.{statement}

@@ -1,5 +1,5 @@
 -- `rewrite::tally::kept` meets its contract.
-use mathlib.Core.Path.{_≡_, refl, sym, ap, _∙_}
+use mathlib.Core.Path.{refl}
 use borrow.Author.Needs.{needs}
 use borrow.Author.Tests.{ne-eqb}
 use Rattle.rewrite.proofs.tally.kept.Statement.{statement}
