@@ -20,7 +20,7 @@ const TIME_HEADS: [&str; 5] = [
     "plain",
     "original",
     "proved / plain",
-    "original / plain",
+    "original / proved",
 ];
 
 fn main() {
@@ -39,7 +39,7 @@ fn time_cells(proved: Option<f64>, plain: Option<f64>, original: Option<f64>) ->
         micros(plain),
         micros(original),
         ratio(proved, plain),
-        ratio(original, plain),
+        ratio(original, proved),
     ]
 }
 
