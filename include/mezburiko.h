@@ -41,8 +41,7 @@ enum mezburiko_number {
     MEZBURIKO_REPEATED = 7,       /* a second property of a node and port, or annihilator of a class */
     MEZBURIKO_TOO_MANY = 8,       /* one node, wire, property or row more than the limit */
     MEZBURIKO_ENDLESS = 9,        /* the rewriting of a wire goes round a circle; place: the first such wire record */
-    MEZBURIKO_NO_SPACE = 10,      /* more than 4,096 rewritten wires, or a buffer too short; place 0 */
-    MEZBURIKO_NO_PLACE = 11       /* the waiting line is full; proved never to be returned */
+    MEZBURIKO_NO_SPACE = 10       /* more than 4,096 rewritten wires, or a buffer too short; place 0 */
 };
 
 /*
@@ -59,7 +58,7 @@ enum mezburiko_number {
  * - none of the five overlaps another, and no other thread writes input or touches the rest during the call.
  * What *place, *length and *pops hold before the call plays no part.
  *
- * The call takes about 126 KB of stack at its peak (docs/PERFORMANCE.md) and no heap. The library has no writable data,
+ * The call takes about 148 KB of stack at its peak (docs/PERFORMANCE.md) and no heap. The library has no writable data,
  * so calls on different memory may run at once in any threads. It always returns, and to its caller.
  */
 uint8_t mezburiko_fold(const uint8_t *input, size_t input_length, uint8_t *out, size_t out_length, size_t *place,

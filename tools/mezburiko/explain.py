@@ -17,8 +17,7 @@ def counts(graph):
 
 
 def heading(number, place):
-    refusal = tables.REFUSALS[number]
-    return ['refused %d at %d: question %d of document 01' % (number, place, refusal.question), '  ' + refusal.words]
+    return ['refused %d at %d: question %d of document 01' % (number, place, number), '  ' + tables.REFUSALS[number].words]
 
 
 def remedy(number):

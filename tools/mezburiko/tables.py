@@ -58,9 +58,8 @@ class Kind(NamedTuple):
 
 
 class Refusal(NamedTuple):
-    """`question` is the place in document 01's list, `words` what is wrong, `remedy` what to do."""
+    """`number` is that of document 01's question, `words` what is wrong, `remedy` what to do."""
     number: int
-    question: int
     words: str
     remedy: str
 
@@ -192,34 +191,34 @@ FATE_KINDS = {kind.number: kind for kind in (KEPT, REMOVED, *LITERALS)}
 LIMITS = {'INPUT': 65_536, 'NODES': 1_024, 'WIRES': 4_096, 'PROPERTIES': 2_048, 'ROWS': 1_024}
 # the limit of question 8 for each role that has one
 ROLE_LIMITS = {'Node': LIMITS['NODES'], 'Wire': LIMITS['WIRES'], 'Property': LIMITS['PROPERTIES'], 'Row': LIMITS['ROWS']}
-# what an answer has at most, by question 11, and the answer buffer of the program `fold`
+# what an answer has at most, by question 10, and the answer buffer of the program `fold`
 ANSWER_WIRES = 4_096
 ANSWER_BYTES = 65_536
 
 REFUSALS = {refusal.number: refusal for refusal in [
-    Refusal(1, 1, 'the input is longer than 65,536 bytes',
+    Refusal(1, 'the input is longer than 65,536 bytes',
             'divide the graph in two, or leave out nodes, wires and rows that nothing needs'),
-    Refusal(2, 2, 'a record begins with a byte that is no kind of record (01 to 0B)',
+    Refusal(2, 'a record begins with a byte that is no kind of record (01 to 0B)',
             'check that the file holds graph records; the record before may be too long or too short'),
-    Refusal(3, 3, 'the input ends inside a record',
+    Refusal(3, 'the input ends inside a record',
             'store or send the whole file again: its end is missing'),
-    Refusal(4, 4, 'a class, flag, port, variant or Bool byte is not one that document 01 lists',
+    Refusal(4, 'a class, flag, port, variant or Bool byte is not one that document 01 lists',
             'give that field a listed value'),
-    Refusal(5, 5, 'a record stands after one of a higher kind',
+    Refusal(5, 'a record stands after one of a higher kind',
             'put the records in the order of their kinds: nodes, wires, Int to Color properties, rows, annihilators'),
-    Refusal(6, 6, 'a record names a node that is not there',
+    Refusal(6, 'a record names a node that is not there',
             'add the node, or correct the number: nodes count from 0'),
-    Refusal(7, 7, 'a property of the same node and port, or an annihilator of the same class, stands before',
+    Refusal(7, 'a property of the same node and port, or an annihilator of the same class, stands before',
             'leave one of the two out'),
-    Refusal(8, 8, 'there are more than 1,024 nodes, 4,096 wires, 2,048 properties or 1,024 rows',
+    Refusal(8, 'there are more than 1,024 nodes, 4,096 wires, 2,048 properties or 1,024 rows',
             'make the graph smaller'),
-    Refusal(9, 10, 'the rewriting of a wire never ends: removed Selects or Branches lead it in a cycle',
+    Refusal(9, 'the rewriting of a wire never ends: removed Selects or Branches lead it in a cycle',
             'break the cycle at one of its wires, or mark one of its Selects or Branches nofold'),
-    Refusal(10, 11, 'the answer has more than 4,096 wires, or does not fit its buffer',
+    Refusal(10, 'the answer has more than 4,096 wires, or does not fit its buffer',
             'lead fewer wires into Branches whose taken side has many wires, or lend a larger buffer'),
-    Refusal(11, 9, 'a node finds no place in the queue of nodes to try',
-            'report it: the folder is proved never to give this number'),
 ]}
+# those of a graph that passes questions 1 to 8
+LATER_REFUSALS = (9, 10)
 
 
 def _rust_module(name, doc, entries, form='{}'):
@@ -269,8 +268,6 @@ def _rust_arrays():
                       (row_length(c) for c in CLASSES))
     yield _rust_array('ANNIHILATORS', 'Classes that may have an annihilator, with the Bool that settles them.',
                       '(u8, bool)', ('(%d, %s)' % (c, str(b).lower()) for c, b in ANNIHILATORS.items()))
-    yield _rust_array('REFUSALS', 'Number, question, what is wrong and what to do.', '(u8, u8, &str, &str)',
-                      ('(%d, %d, "%s", "%s")' % refusal for refusal in REFUSALS.values()))
 
 
 def row_length(node_class):

@@ -18,7 +18,7 @@
 //! # Ok::<(), mezburiko::Refusal>(())
 //! ```
 //!
-//! A call takes about 126 KB of stack, allocates nothing and shares nothing with other calls, so it may run in any
+//! A call takes about 148 KB of stack, allocates nothing and shares nothing with other calls, so it may run in any
 //! number of threads at once. The package uses `core` alone but for [`fold_to_vec`], which the feature `alloc` has.
 //!
 //! The static library `libfolding.a` is linked from the folder that the environment variable `MEZBURIKO_LIB_DIR` names,
@@ -109,12 +109,10 @@ pub enum Reason {
     Endless = 9,
     /// More than [`MAX_WIRES`] rewritten wires, or an answer that is longer than the buffer.
     NoSpace = 10,
-    /// The waiting line is full. It is proved that no input is refused for this.
-    NoPlace = 11,
 }
 
 impl Reason {
-    const ALL: [Reason; 11] = [
+    const ALL: [Reason; 10] = [
         Reason::InputTooLong,
         Reason::UnknownKind,
         Reason::CutOff,
@@ -125,7 +123,6 @@ impl Reason {
         Reason::TooMany,
         Reason::Endless,
         Reason::NoSpace,
-        Reason::NoPlace,
     ];
 
     /// Document 01's number.
@@ -156,7 +153,6 @@ impl fmt::Display for Reason {
             Reason::NoSpace => {
                 "there are too many rewritten wires, or the answer is longer than the buffer"
             }
-            Reason::NoPlace => "the waiting line is full",
         })
     }
 }

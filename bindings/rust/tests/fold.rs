@@ -25,7 +25,7 @@ fn painted(length: usize) -> Vec<u8> {
     (0..length).map(|at| (at * 7 + 0xA5) as u8).collect()
 }
 
-/// An input for each refusal that can happen, in the order of their numbers.
+/// An input for each refusal, in the order of their numbers.
 fn refused_inputs() -> Vec<(Vec<u8>, Reason, usize)> {
     // 65 wires into a Branch that takes 65 targets
     let many = "010000 010500 010000".to_string()
@@ -187,11 +187,11 @@ fn threads() {
 fn reasons() {
     let named: Vec<Reason> = (0..=u8::MAX).filter_map(Reason::from_number).collect();
     let numbers: Vec<u8> = named.iter().map(|reason| reason.number()).collect();
-    assert_eq!(numbers, (1..=11).collect::<Vec<u8>>());
+    assert_eq!(numbers, (1..=10).collect::<Vec<u8>>());
     let mut words: Vec<String> = named.iter().map(Reason::to_string).collect();
     words.sort();
     words.dedup();
-    assert_eq!(words.len(), 11);
+    assert_eq!(words.len(), 10);
     let error: Box<dyn Error> = fold(&[0], &mut []).unwrap_err().into();
     assert_eq!(
         error.to_string(),

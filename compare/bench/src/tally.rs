@@ -6,8 +6,8 @@ use crate::table::{Table, whole};
 use crate::tables::{CLASS_NAMES, VARIANT_NAMES};
 use std::collections::{BTreeMap, HashSet};
 
-/// Outcomes by number: 0 for an answer, and refusals 1 to 11.
-type ByNumber = [usize; 12];
+/// Outcomes by number: 0 for an answer, and refusals 1 to 10.
+type ByNumber = [usize; 11];
 
 #[derive(Default)]
 pub struct Tally {
@@ -119,7 +119,7 @@ impl Tally {
         let mut sums = ByNumber::default();
         let cells = |name: &str, counts: &ByNumber| {
             let mut cells = vec![name.to_string(), whole(counts.iter().sum())];
-            cells.extend(counts[..11].iter().map(|&count| whole(count)));
+            cells.extend(counts.iter().map(|&count| whole(count)));
             cells
         };
         for (family, counts) in &self.families {

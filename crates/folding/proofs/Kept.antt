@@ -11,14 +11,17 @@ use lib.ListN.{length, take}
 use Rattle.ir.specs.declared.Wire.{Wire}
 use Rattle.graph.specs.Graph.{Graph}
 use Rattle.graph.specs.Decode.{Verdict, accepted, refused, decode, graphOf}
-use Rattle.records.proofs.Laid.{wire-says}
+use Rattle.records.proofs.Laid.{wire-says, few-nodes}
 use Rattle.model.specs.Maps.{All}
 use Rattle.model.specs.Inputs.{size}
+use Rattle.model.specs.Offer.{literals}
 use Rattle.ir.specs.Limits.{maxWires}
+use Rattle.model.specs.Worklist.{after, Waiting}
 use Rattle.model.specs.Answer.{answer}
 use Rattle.model.specs.Outcome.{wireOffset, counted, ending, wires, stops, measured, answered, Result, folds, refuses, Numbers, numbersOf, outcome}
 use Rattle.model.specs.Demands.{foldOf, planOf, Refused, FirstEndless, Clean, Demand3}
-use Rattle.model.proofs.Refusals.{refusals, never-full, folds-refuses, at-refusal, at-graph}
+use Rattle.model.proofs.QueueLength.{waiting}
+use Rattle.model.proofs.Refusals.{refusals, refusal-number, folds-refuses, at-refusal, at-graph}
 use Rattle.model.proofs.Demand3.{demand3-returned}
 use Rattle.model.proofs.Decoded.{refused-number}
 use Rattle.folding.specs.declared.Outcome.{Outcome}
@@ -71,8 +74,17 @@ module _ {input before after : List ℕ} {r : Outcome} (A : Answers input before
   unfolding numbersOf
   refuse-numbers n p q = (ap (λ (m : Numbers). m .number) (A .result ∙ ap numbersOf q), ap (λ (m : Numbers). m .place) (A .result ∙ ap numbersOf q))
 
+  given : (o : Result) → outcome input room ≡ o → numbers r .number ≤ 10
+  unfolding numbersOf
+  given (folds x k) q = omega (arith, ap (λ (m : Numbers). m .number) (A .result ∙ ap numbersOf q))
+  given (refuses n p) q = omega (arith, refusal-number input room n p q, ap (λ (m : Numbers). m .number) (A .result ∙ ap numbersOf q))
+
   pub refusals-kept : Refusals input room (numbers r)
-  refusals-kept n p l = (λ h. refusals input room n p .0 (numbers-refuse n p l (h .0) (h .1) _ refl), λ h. refuse-numbers n p (refusals input room n p .1 h))
+  refusals-kept =
+      record {
+        exactly = λ n p l. (λ h. refusals input room n p .0 (numbers-refuse n p l (h .0) (h .1) _ refl), λ h. refuse-numbers n p (refusals input room n p .1 h));
+        given = given _ refl;
+      }
 
   graph-is : (g : Graph) → decode input ≡ accepted g → g ≡ graphOf input
   unfolding graphOf
@@ -87,11 +99,7 @@ module _ {input before after : List ℕ} {r : Outcome} (A : Answers input before
   endless-of n p e (Refused.writing d q l) = absurd (omega arith)
 
   pub offset-kept : numbers r .number ≡ 9 → EndlessAt input (numbers r .place)
-  offset-kept e = endless-of 9 (numbers r .place) refl (refusals-kept 9 (numbers r .place) (omega arith) .0 (e, refl))
-
-  -- 11 is never given
-  pub never-full-kept : numbers r .number ≡ 11 → ⊥
-  never-full-kept e = never-full input room (numbers r .place) (numbers-refuse 11 (numbers r .place) (omega arith) e refl _ refl)
+  offset-kept e = endless-of 9 (numbers r .place) refl (refusals-kept .exactly 9 (numbers r .place) (omega arith) .0 (e, refl))
 
   -- ---- demand 3
 
@@ -119,3 +127,9 @@ module _ {input before after : List ℕ} {r : Outcome} (A : Answers input before
 
     pub clean-kept : CleanWires (graphOf input)
     clean-kept = subst CleanWires same clean-of
+
+-- ---- the queue
+
+pub waiting-kept : (input : List ℕ) (pops : ℕ) → Waiting (graphOf input) (after (literals (graphOf input)) (graphOf input) pops)
+unfolding size
+waiting-kept input = waiting (literals (graphOf input)) (graphOf input) (few-nodes input)

@@ -1,6 +1,6 @@
 -- From each stage to the entry's result and buffer.
 use mathlib.Core.Path.{_≡_, refl, sym, ap, ap₂, _∙_, subst, subst₂}
-use mathlib.Core.Bool.{Bool, true, false, cond, false≢true}
+use mathlib.Core.Bool.{Bool, true, false, cond}
 use mathlib.Core.Option.{some}
 use mathlib.Core.List.{List, [], _∷_, _++_}
 use Prim.Native.Nat.{ℕ, suc, _+_, _-_, _*_, _<_, _≤_}
@@ -18,13 +18,11 @@ use Rattle.graph.specs.declared.Counts.{Counts}
 use Rattle.records.specs.Access.{wiresOf, Accepts, Bounded, wiresOffset, propertiesOffset}
 use Rattle.graph.specs.declared.Row.{Row}
 use Rattle.table.specs.Table.{Cells}
-use Rattle.records.proofs.Laid.{counted, bounded, few-nodes, wires-part}
+use Rattle.records.proofs.Laid.{counted, bounded, wires-part}
 use Rattle.resolve.specs.Reads.{Reads}
 use Rattle.model.specs.Maps.{Map, isSome}
 use Rattle.model.specs.Inputs.{size}
-use Rattle.model.specs.Offer.{PlanAction, literals}
-use Rattle.model.specs.Worklist.{alwaysJoins}
-use Rattle.model.proofs.QueueLength.{always-joins}
+use Rattle.model.specs.Offer.{PlanAction}
 use Rattle.model.specs.Answer.{each}
 use Rattle.model.specs.Rewrite.{rewriteWire, rewriteWires}
 use Rattle.model.specs.TargetCounts.{cap}
@@ -89,7 +87,7 @@ module _ {input : List ℕ} {c : Counts} {kinds words actions details : List ℕ
   read : decode input ≡ accepted g
   read = accepted-graph input c (W .accepts)
 
-  -- question 10
+  -- question 9
   pub refuse-endless : {before : List ℕ} {index place : ℕ} → Stuck (shapeOf (g .wires) actions details) (size g) (g .wires) index → place ≡ 3 * c .nodes + 7 * index → Answers input before before (Outcome.Refused 9 place)
   refuse-endless {before} {index} {place} S e =
       let z : place ≡ wireOffset g (endlessIndex (shapeOf (g .wires) actions details) (size g) (g .wires)) = e ∙ ap₂ (λ (d : Counts) (i : ℕ). 3 * d .nodes + 7 * i) (counted input c (W .accepts)) (S .first) in
@@ -105,7 +103,7 @@ module _ {input : List ℕ} {c : Counts} {kinds words actions details : List ℕ
   is-read : decode input ≡ accepted h
   is-read = accepted-graph input c (W .accepts)
 
-  -- question 11: too many wires
+  -- question 10: too many wires
   pub refuse-many : {before : List ℕ} → maxWires < count → Answers input before before (Outcome.Refused 10 0)
   unfolding cap
   refuse-many {before} l =
@@ -119,7 +117,7 @@ module _ {input : List ℕ} {c : Counts} {kinds words actions details : List ℕ
     whole : length (bytesIn (size h) kinds words actions ws) ≡ length (knownRecords kinds words (size h)) + length (fateRecords kinds words actions (size h)) + 7 * count
     whole = bytes-size (size h) kinds words actions ws ∙ omega (arith, exact)
 
-    -- question 11: too long an answer
+    -- question 10: too long an answer
     pub refuse-long : {before : List ℕ} {size-of : ℕ} → size-of ≡ length (knownRecords kinds words (size h)) + length (fateRecords kinds words actions (size h)) + 7 * count → length before < size-of → Answers input before before (Outcome.Refused 10 0)
     refuse-long {before} {size-of} e m =
         refuse (outcome-long input (length before) h is-read kinds words actions details (W .holds) ws (C .ends) (omega (arith, exact)) (omega (arith, whole)))
@@ -240,11 +238,6 @@ reads-at {input} {c} {rows = rows} X e h =
       bounded = bounded input;
       feeds = X .feeds;
     }
-
--- question 9 is never answered with no
-pub never-full-at : {X : Type 0} {input : List ℕ} {c : Counts} {table wires feedsFirst feedsNext first next : List ℕ} → Indexes input c table wires feedsFirst feedsNext first next → alwaysJoins (literals (graphOf input)) (graphOf input) ≡ false → X
-unfolding size
-never-full-at {input = input} I e = absurd (false≢true (sym e ∙ always-joins (literals (graphOf input)) (graphOf input) (few-nodes input)))
 
 module _ {input : List ℕ} {c : Counts} {kinds words actions details : List ℕ} {pops : ℕ} (W : Settled input c kinds words actions details pops) {vs : List Wire} (f : vs ≡ graphOf input .wires) where
   nodes : c .nodes ≡ size (graphOf input)

@@ -22,9 +22,10 @@ use Rattle.model.specs.Answer.{answer}
 use Rattle.model.specs.Outcome.{Numbers}
 use Rattle.model.specs.Demands.{foldOf, planOf, Refused, FirstEndless, Clean}
 
--- demand 1: refused with a number and a place exactly where document 01 has that number and place for the input
-abbrev pub Refusals : List ℕ → ℕ → Numbers → Type 0
-Refusals input room r = (n p : ℕ) → 1 ≤ n → ((r .number ≡ n) × (r .place ≡ p)) ↔ Refused input room n p
+-- demand 1: refused with a number and a place exactly where document 01 has that number and place for the input, and with none beyond 10
+pub record Refusals (input : List ℕ) (room : ℕ) (r : Numbers) : Type 0 where
+  pub exactly : (n p : ℕ) → 1 ≤ n → ((r .number ≡ n) × (r .place ≡ p)) ↔ Refused input room n p
+  pub given : r .number ≤ 10
 
 -- "place the offset of the first such wire record": the record there is that wire's
 pub record EndlessAt (input : List ℕ) (place : ℕ) : Type 0 where

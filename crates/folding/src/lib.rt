@@ -10,7 +10,6 @@ use records::access;
 use rewrite::Rewriting;
 use state::WORDS;
 use table::CELLS;
-use worklist::Worked;
 ghost use mathlib.Core.Path.{_≡_};
 ghost use mathlib.Core.List.{List};
 ghost use Prim.Native.Nat.{ℕ, _+_, _*_, _≤_};
@@ -21,6 +20,8 @@ ghost use Rattle.ir.specs.Limits.{maxNodes, maxWires};
 ghost use Rattle.graph.specs.Decode.{graphOf};
 ghost use Rattle.graph.specs.Index.{Indexed};
 ghost use Rattle.records.specs.Access.{Accepts};
+ghost use Rattle.model.specs.Offer.{literals};
+ghost use Rattle.model.specs.Worklist.{after, Waiting};
 ghost use Rattle.model.specs.Outcome.{numbersOf, written, outcome};
 ghost use Rattle.state.specs.Held.{isKind};
 ghost use Rattle.answer.specs.Nodes.{knownRecords, fateRecords};
@@ -37,8 +38,6 @@ pub enum Outcome {
 const ENDLESS: u8 = 9;
 
 const TOO_LONG: u8 = 10;
-
-const NO_PLACE: u8 = 11;
 
 // Whether a buffer of so much room holds the records of the nodes and `count` wires.
 fn holds(
@@ -58,7 +57,7 @@ fn holds(
     answer::nodes_fit(kinds, actions, nodes, room - wires)
 }
 
-// Question 11, and the answer. `count` is how many wires there are at the end, 4,097 for more than 4,096.
+// Question 10, and the answer. `count` is how many wires there are at the end, 4,097 for more than 4,096.
 fn write_answer(
     input: &[u8],
     counts: Counts,
@@ -107,7 +106,7 @@ fn write_answer(
     Outcome::Folded { length, pops }
 }
 
-// Question 10, then 11 and the answer.
+// Question 9, then 10 and the answer.
 fn rewrite_graph(
     input: &[u8],
     counts: Counts,
@@ -184,7 +183,7 @@ fn write_kept(
     Outcome::Folded { length: end, pops }
 }
 
-// Questions 10 and 11, and the answer. Without a planned Select or Branch every wire's rewriting ends, and the wires only get fewer: they are counted
+// Questions 9 and 10, and the answer. Without a planned Select or Branch every wire's rewriting ends, and the wires only get fewer: they are counted
 // only where the buffer may be too short.
 fn answer_graph(
     input: &[u8],
@@ -207,7 +206,7 @@ fn answer_graph(
     rewrite_graph(input, counts, kinds, words, actions, details, pops, out)
 }
 
-// The worklist, question 9, and what follows.
+// The worklist, and what follows.
 fn run_worklist(
     input: &[u8],
     counts: Counts,
@@ -228,7 +227,7 @@ fn run_worklist(
     let mut words = [0u64; WORDS];
     let mut actions = [0u8; limit::NODES];
     let mut details = [0u16; limit::NODES];
-    let Worked::Pops(pops) = worklist::run(
+    let pops = worklist::run(
         input,
         counts,
         table,
@@ -242,12 +241,7 @@ fn run_worklist(
         &mut words,
         &mut actions,
         &mut details,
-    ) else {
-        return Outcome::Refused {
-            number: NO_PLACE,
-            place: 0,
-        };
-    };
+    );
     answer_graph(input, counts, &kinds, &words, &actions, &details, pops, out)
 }
 
@@ -289,7 +283,7 @@ pub fn fold(input: &[u8], out: &mut [u8]) -> Outcome
     ensures pops { λ r. ⌜ (Accepted (numbers r) → PopsOf (graphOf (now (input .entry))) (numbers r .pops)) ⌝ }
     ensures finite { λ r. ⌜ (Accepted (numbers r) → FinitePlan (graphOf (now (input .entry)))) ⌝ }
     ensures clean { λ r. ⌜ (Accepted (numbers r) → CleanWires (graphOf (now (input .entry)))) ⌝ }
-    ensures never_full { λ r. ⌜ (numbers r .number ≡ 11 → ⊥) ⌝ }
+    ensures waiting { λ _. ⌜ ((pops : ℕ) → Waiting (graphOf (now (input .entry))) (after (literals (graphOf (now (input .entry)))) (graphOf (now (input .entry))) pops)) ⌝ }
 {
     fold_input(input, out)
 }

@@ -6,7 +6,7 @@ use Rattle.model.specs.Maps.{isSome, orElse, put, keep, any, upTo, itera
 use Rattle.model.specs.Inputs.{size, nodeOf, isPort, feeds, targets, property, resolveWires, resolveInput, resolveDataInput, allResolved}
 use Rattle.model.specs.Offer.{noOffer, valueOffer, literalOffer, covers, resolveCondition, chosenOffer, selectOffer, branchOffer, evaluated, settles, annihilator, settled, gateValue, gateOffer, foldingOffer, byItself, nodeOffer, offer, literals}
 use Rattle.model.specs.Trial.{empty, add, trial, trials}
-use Rattle.model.specs.Worklist.{consumes, joiners, start, newly, pop, next, step, after, worklist, joins, alwaysJoins}
+use Rattle.model.specs.Worklist.{consumes, joiners, start, newly, pop, next, step, after, worklist}
 use Rattle.model.specs.Rewrite.{both, collect, arrive, reach, leave, follow, joined, rewriteWire, rewriteWires}
 use Rattle.model.specs.Answer.{each, knownBytes, fateBytes, answer}
 use Rattle.model.specs.Outcome.{Result, folds, refuses, endlessIndex, counted, ending, rewritten, measured, answered, foldGraph, byVerdict, outcome, numbersOf, written}
@@ -22,7 +22,7 @@ use Rattle.arithmetic.specs.Arithmetic.{mathOf}
 
 -- whoever unfolds `run` unfolds all of these
 run : List ℕ → Result
-unfolding isSome orElse put keep any upTo iterate size nodeOf isPort feeds targets property resolveWires resolveInput resolveDataInput allResolved noOffer valueOffer literalOffer covers resolveCondition chosenOffer selectOffer branchOffer evaluated settles annihilator settled gateValue gateOffer foldingOffer byItself nodeOffer offer literals empty add trial trials consumes joiners start newly pop next step after worklist joins alwaysJoins both collect arrive reach leave follow joined rewriteWire rewriteWires each knownBytes fateBytes answer endlessIndex counted ending rewritten measured answered foldGraph byVerdict outcome numbersOf written lookup member refusalAt scan decode firstNo numberAt bytesOf compositeAt valueAt inRange checked eqZ logicalAndOf mathOf
+unfolding isSome orElse put keep any upTo iterate size nodeOf isPort feeds targets property resolveWires resolveInput resolveDataInput allResolved noOffer valueOffer literalOffer covers resolveCondition chosenOffer selectOffer branchOffer evaluated settles annihilator settled gateValue gateOffer foldingOffer byItself nodeOffer offer literals empty add trial trials consumes joiners start newly pop next step after worklist both collect arrive reach leave follow joined rewriteWire rewriteWires each knownBytes fateBytes answer endlessIndex counted ending rewritten measured answered foldGraph byVerdict outcome numbersOf written lookup member refusalAt scan decode firstNo numberAt bytesOf compositeAt valueAt inRange checked eqZ logicalAndOf mathOf
 run input = outcome input 65536
 
 -- ---- document 01's worked example: 48 bytes, 3 pops

@@ -10,7 +10,7 @@ use lib.Dec.{eqb}
 use lib.ListN.{length, length-append}
 use borrow.Author.Tests.{eqb-false}
 use Rattle.graph.specs.Graph.{member}
-use Rattle.model.specs.Maps.{keep, any, All, upTo, iterate}
+use Rattle.model.specs.Maps.{keep, any, All, Distinct, upTo, iterate}
 use Rattle.model.proofs.Maps.{Same, same?}
 
 -- ---- tests
@@ -186,10 +186,6 @@ all-keep {A} P f (x ∷ xs) h = go (f x) refl (all-keep P f xs (h .1))
     go false q r = r
 
 -- ---- distinct numbers below n: there are no more than n
-
-abbrev pub Distinct : List ℕ → Type 0
-Distinct [] = Unit {0}
-Distinct (x ∷ xs) = (member x xs ≡ false) × Distinct xs
 
 count-some : (x n : ℕ) → x < n → 1 ≤ count (λ c. eqb x c) (upTo n)
 unfolding upTo count bit

@@ -259,7 +259,7 @@ module _ (own : Map Value) (g : Graph) where
           rw (orElse-none (s .known n) (o .value) z) (put-none (s .known) n)
 
   -- a trial changes what is known at its node alone
-  elsewhere : (s : State) (n m : ℕ) → eqb m n ≡ false → trial own g s n .known m ≡ s .known m
+  pub elsewhere : (s : State) (n m : ℕ) → eqb m n ≡ false → trial own g s n .known m ≡ s .known m
   unfolding trial add
   elsewhere s n m d = go (isSome (s .known n))
     where

@@ -1,27 +1,24 @@
--- The waiting nodes are distinct nodes, so there are never more of them than nodes.
+-- The waiting nodes are distinct nodes that are not known, so there are never more of them than places.
 use mathlib.Core.Path.{_≡_, refl, sym, _∙_}
 use mathlib.Core.Bool.{Bool, true, false, cond, not, _&&_, _||_, true≢false}
+use mathlib.Core.Option.{none}
 use mathlib.Core.List.{List, [], _∷_, _++_, append-nil}
 use mathlib.Core.Logic.{inl, inr, _≢_}
-use Prim.Native.Nat.{ℕ, zero, suc, _+_, _<_, _≤_}
+use Prim.Native.Nat.{ℕ, zero, suc, _<_, _≤_}
 use native.Mathlib.Omega.{arith}
 use lib.Dec.{eqb}
 use lib.ListN.{length}
-use borrow.Author.Tests.{le-leb, not-true}
+use borrow.Author.Tests.{not-true}
 use Rattle.value.specs.declared.Value.{Value}
 use Rattle.graph.specs.Graph.{Graph, member}
-use Rattle.graph.proofs.Roles.{and-right}
-use Rattle.model.specs.Maps.{keep, isSome, Map, All, upTo}
+use Rattle.graph.proofs.Roles.{and-left, and-right}
+use Rattle.model.specs.Maps.{keep, isSome, Map, All, Distinct, upTo}
 use Rattle.model.specs.Inputs.{size}
-use Rattle.model.specs.Trial.{State, trial}
-use Rattle.model.specs.Worklist.{queuePlaces, consumes, joiners, start, newly, pop, next, step, after, joins, alwaysJoins}
-use Rattle.model.proofs.Maps.{eqb-same, Same, same?}
-use Rattle.model.proofs.Lists.{or-false-left, or-false-right, member-append, all-append, all-weaken, all-keep, Distinct, distinct-below, iterate-keeps}
-
--- distinct numbers below n
-pub record Waiting (n : ℕ) (xs : List ℕ) : Type 0 where
-  pub distinct : Distinct xs
-  pub below : All (λ x. x < n) xs
+use Rattle.model.specs.Trial.{State, empty, trial}
+use Rattle.model.specs.Worklist.{queuePlaces, consumes, joiners, Work, start, newly, pop, next, step, after, Waiting}
+use Rattle.model.proofs.Maps.{eqb-same, Same, same?, some-false}
+use Rattle.model.proofs.Order.{elsewhere}
+use Rattle.model.proofs.Lists.{or-false-left, or-false-right, member-append, all-append, all-weaken, all-keep, distinct-below, iterate-keeps}
 
 -- what is not among the elements is not among those kept
 pub keep-out : (f : ℕ → Bool) (m : ℕ) (xs : List ℕ) → member m xs ≡ false → member m (keep f xs) ≡ false
@@ -60,21 +57,47 @@ distinct-append (x ∷ xs) ys d e h = (
   distinct-append xs ys (d .1) e (all-weaken _ _ (λ y q. or-false-right (eqb x y) _ q) ys h),
 )
 
-upTo-waiting : (n : ℕ) → Waiting n (upTo n)
+upTo-below : (n : ℕ) → All (λ x. x < n) (upTo n)
 unfolding upTo
-upTo-waiting zero = record { distinct = tt; below = tt }
-upTo-waiting (suc n) =
-    let ih : Waiting n (upTo n) = upTo-waiting n in
-    record {
-      distinct = distinct-append (upTo n) (n ∷ []) (ih .distinct) (unfold member in (refl, tt)) (apart n (upTo n) (all-weaken _ _ (λ x l e. absurd-lt x n l e) (upTo n) (ih .below)), tt);
-      below = all-append (λ x. x < suc n) (upTo n) (n ∷ []) (all-weaken _ _ (λ x l. omega arith) (upTo n) (ih .below)) (omega arith, tt);
-    }
-  where
-    absurd-lt : (x n : ℕ) → x < n → x ≡ n → ⊥
-    absurd-lt x n l e = omega arith
+upTo-below zero = tt
+upTo-below (suc n) = all-append (λ x. x < suc n) (upTo n) (n ∷ []) (all-weaken _ _ (λ x l. omega arith) (upTo n) (upTo-below n)) (omega arith, tt)
 
-module _ (own : Map Value) (g : Graph) where
-  next-waiting : (s : State) (pops : ℕ) (queue : List ℕ) → Waiting (size g) queue → Waiting (size g) (next own g s pops queue .queue)
+pub upTo-out : (n : ℕ) → member n (upTo n) ≡ false
+upTo-out n = apart n (upTo n) (all-weaken _ _ (λ x l e. other x n l e) (upTo n) (upTo-below n))
+  where
+    other : (x n : ℕ) → x < n → x ≡ n → ⊥
+    other x n l e = omega arith
+
+-- one more, which was not among them
+pub distinct-more : (xs : List ℕ) (x : ℕ) → Distinct xs → member x xs ≡ false → Distinct (xs ++ (x ∷ []))
+distinct-more xs x d m = distinct-append xs (x ∷ []) d (unfold member in (refl, tt)) (m, tt)
+
+upTo-distinct : (n : ℕ) → Distinct (upTo n)
+unfolding upTo
+upTo-distinct zero = tt
+upTo-distinct (suc n) = distinct-more (upTo n) n (upTo-distinct n) (upTo-out n)
+
+-- a node that does not wait finds a place: each of those that wait waits once, and there are no more nodes than places
+pub finds-place : (queue : List ℕ) (c : ℕ) → Distinct queue → All (λ x. x < queuePlaces) queue → c < queuePlaces → member c queue ≡ false → length queue < queuePlaces
+finds-place queue c d b l m = distinct-below queuePlaces (c ∷ queue) (m, d) (l, b)
+
+all-none : (xs : List ℕ) → All (λ x. empty .known x ≡ none) xs
+unfolding empty
+all-none [] = tt
+all-none (x ∷ xs) = (refl, all-none xs)
+
+-- each of the nodes of a graph has a place
+module _ (own : Map Value) (g : Graph) (few : size g ≤ queuePlaces) where
+  waits : (w : Work) → Distinct (w .queue) → All (λ c. c < size g) (w .queue) → All (λ c. w .state .known c ≡ none) (w .queue) → Waiting g w
+  waits w d b u = record { once = d; nodes = b; places = omega (arith, distinct-below (size g) (w .queue) d b); unknown = u }
+
+  -- a trial makes none of the others known
+  stays : (s : State) (n : ℕ) (queue : List ℕ) → member n queue ≡ false → All (λ x. s .known x ≡ none) queue → All (λ x. trial own g s n .known x ≡ none) queue
+  unfolding member
+  stays s n [] m u = tt
+  stays s n (x ∷ xs) m u = (elsewhere own g s n x (or-false-left (eqb x n) _ m) ∙ u .0, stays s n xs (or-false-right (eqb x n) _ m) (u .1))
+
+  next-waiting : (s : State) (pops : ℕ) (queue : List ℕ) → Waiting g (record { queue = queue; state = s; pops = pops }) → Waiting g (next own g s pops queue)
   unfolding next pop joiners
   next-waiting s pops [] h = h
   next-waiting s pops (n ∷ queue) h = go (newly s t n)
@@ -86,31 +109,30 @@ module _ (own : Map Value) (g : Graph) where
       f c = consumes g n c && not (isSome (t .known c)) && not (member c queue)
 
       kept : All (λ x. (x < size g) × (f x ≡ true)) (keep f (upTo (size g)))
-      kept = all-keep _ f (upTo (size g)) (upTo-waiting (size g) .below)
+      kept = all-keep _ f (upTo (size g)) (upTo-below (size g))
 
-      go : (b : Bool) → Waiting (size g) (queue ++ cond b (keep f (upTo (size g))) [])
+      each : (P : ℕ → Type 0) → ((y : ℕ) → y < size g → f y ≡ true → P y) → All P (keep f (upTo (size g)))
+      each P k = all-weaken (λ x. (x < size g) × (f x ≡ true)) P (λ y q. k y (q .0) (q .1)) (keep f (upTo (size g))) kept
+
+      out : (y : ℕ) → f y ≡ true → member y queue ≡ false
+      out y q = not-true (member y queue) (and-right (consumes g n y && not (isSome (t .known y))) (not (member y queue)) q)
+
+      new : (y : ℕ) → f y ≡ true → t .known y ≡ none
+      new y q = some-false (t .known y) (not-true (isSome (t .known y)) (and-right (consumes g n y) (not (isSome (t .known y))) (and-left (consumes g n y && not (isSome (t .known y))) (not (member y queue)) q)))
+
+      still : All (λ x. t .known x ≡ none) queue
+      still = stays s n queue (h .once .0) (h .unknown .1)
+
+      go : (b : Bool) → Waiting g (record { queue = queue ++ cond b (keep f (upTo (size g))) []; state = t; pops = suc pops })
       go true =
-          record {
-            distinct = distinct-append queue (keep f (upTo (size g))) (h .distinct .1) (distinct-keep f (upTo (size g)) (upTo-waiting (size g) .distinct)) (all-weaken (λ x. (x < size g) × (f x ≡ true)) (λ y. member y queue ≡ false) (λ y q. not-true (member y queue) (and-right (consumes g n y && not (isSome (t .known y))) (not (member y queue)) (q .1))) (keep f (upTo (size g))) kept);
-            below = all-append (λ x. x < size g) queue (keep f (upTo (size g))) (h .below .1) (all-weaken (λ x. (x < size g) × (f x ≡ true)) (λ x. x < size g) (λ y q. q .0) (keep f (upTo (size g))) kept);
-          }
-      go false = rw append-nil (record { distinct = h .distinct .1; below = h .below .1 })
+          waits _
+          (distinct-append queue _ (h .once .1) (distinct-keep f (upTo (size g)) (upTo-distinct (size g))) (each (λ y. member y queue ≡ false) (λ y l q. out y q)))
+          (all-append (λ x. x < size g) queue _ (h .nodes .1) (each (λ x. x < size g) (λ y l q. l)))
+          (all-append (λ x. t .known x ≡ none) queue _ still (each (λ x. t .known x ≡ none) (λ y l q. new y q)))
+      go false = waits _ (rw append-nil (h .once .1)) (rw append-nil (h .nodes .1)) (rw append-nil still)
 
-  -- after however many pops, distinct nodes wait
-  pub waiting : (k : ℕ) → Waiting (size g) (after own g k .queue)
+  -- after however many pops
+  pub waiting : (pops : ℕ) → Waiting g (after own g pops)
   unfolding after start step
-  waiting k =
-      iterate-keeps (λ w. Waiting (size g) (w .queue)) (step own g) (λ w h. next-waiting (w .state) (w .pops) (w .queue) h) k (start g) (upTo-waiting (size g))
-
-  -- no more than there are nodes
-  pub queue-length : (k : ℕ) → length (after own g k .queue) ≤ size g
-  queue-length k = distinct-below (size g) (after own g k .queue) (waiting k .distinct) (waiting k .below)
-
-  -- so question 9 is answered with yes
-  pub always-joins : size g ≤ queuePlaces → alwaysJoins own g ≡ true
-  unfolding alwaysJoins joins
-  always-joins l = go (size g + length (g .wires))
-    where
-      go : (k : ℕ) → joins own g k ≡ true
-      go zero = unfold joins in le-leb (length (after own g 0 .queue)) queuePlaces (omega (arith, queue-length 0))
-      go (suc k) = unfold joins in rw (go k) (le-leb (length (after own g (suc k) .queue)) queuePlaces (omega (arith, queue-length (suc k))))
+  waiting pops =
+      iterate-keeps (Waiting g) (step own g) (λ w h. next-waiting (w .state) (w .pops) (w .queue) h) pops (start g) (waits (start g) (upTo-distinct (size g)) (upTo-below (size g)) (all-none (upTo (size g))))

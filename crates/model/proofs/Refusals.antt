@@ -1,4 +1,4 @@
--- An input is refused with a number and a place exactly in document 01's case for it, and never with 11.
+-- An input is refused with a number and a place exactly in document 01's case for it.
 use mathlib.Core.Path.{_≡_, refl, sym, _∙_, subst₂}
 use mathlib.Core.Bool.{Bool, true, false, cond}
 use mathlib.Core.Option.{Option, none, some}
@@ -20,9 +20,8 @@ use Rattle.model.specs.Answer.{answer}
 use Rattle.model.specs.Outcome.{counted, ending, rewritten, wires, stops, folds, refuses, measured, answered, foldGraph, byVerdict, outcome}
 use Rattle.model.specs.Demands.{foldOf, planOf, Refused}
 use Rattle.model.proofs.Order.{planned-below}
-use Rattle.model.proofs.QueueLength.{always-joins}
 use Rattle.model.proofs.Endless.{first-endless, found, Found}
-use Rattle.model.proofs.Decoded.{accepted-size, refused-number}
+use Rattle.model.proofs.Decoded.{refused-number}
 
 pub folds-refuses : {X : Type 0} {n p : ℕ} {a : List ℕ} {k : ℕ} → refuses n p ≡ folds a k → X
 folds-refuses e = let z : _≡_ {A = ℕ} 0 1 = cc in let b : ⊥ = omega arith in absurd b
@@ -31,10 +30,10 @@ pub at-refusal : (input : List ℕ) (room n p : ℕ) → decode input ≡ refuse
 unfolding outcome byVerdict
 at-refusal input room n p e = rw (e, byVerdict)
 
--- what is left of an outcome once the graph is decoded and question 9 answered
+-- what is left of an outcome once the graph is decoded
 pub at-graph : (input : List ℕ) (room : ℕ) (g : Graph) → decode input ≡ accepted g → outcome input room ≡ answered g (foldOf g) room (ending g (planOf g) (rewriteWires (planOf g) (size g) (g .wires)))
 unfolding outcome byVerdict foldGraph rewritten
-at-graph input room g e = rw (e, byVerdict, foldGraph, always-joins (literals g) g (accepted-size input g e), rewritten)
+at-graph input room g e = rw (e, byVerdict, foldGraph, rewritten)
 
 module _ (input : List ℕ) (room : ℕ) where
   -- ---- refused, so it is one of the cases
@@ -95,7 +94,3 @@ module _ (input : List ℕ) (room : ℕ) where
 
   pub refusal-number : (n p : ℕ) → outcome input room ≡ refuses n p → (1 ≤ n) × (n ≤ 10)
   refusal-number n p e = number n p (only n p e)
-
-  -- question 9 is never answered with no
-  pub never-full : (p : ℕ) → outcome input room ≡ refuses 11 p → ⊥
-  never-full p e = let h : (1 ≤ 11) × (11 ≤ 10) = refusal-number 11 p e in omega arith

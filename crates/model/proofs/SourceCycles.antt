@@ -10,11 +10,11 @@ use lib.Dec.{eqb}
 use lib.ListN.{length}
 use Rattle.ir.specs.declared.PortRef.{PortRef}
 use Rattle.graph.specs.Graph.{member}
-use Rattle.model.specs.Maps.{Map, All}
+use Rattle.model.specs.Maps.{Map, All, Distinct}
 use Rattle.model.specs.Offer.{PlanAction, BecomeLiteral, ShortCircuit, Truncate}
 use Rattle.model.specs.Rewrite.{Source, cycles, drops, from, leave, follow, Passes, Sources, SourceCycle}
 use Rattle.model.proofs.Maps.{Same, same?, by-bool}
-use Rattle.model.proofs.Lists.{Distinct, distinct-below}
+use Rattle.model.proofs.Lists.{distinct-below}
 
 -- it is no cycle
 abbrev Ends : Source → Type 0

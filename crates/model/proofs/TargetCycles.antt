@@ -11,11 +11,11 @@ use lib.ListN.{length}
 use Rattle.ir.specs.Ports.{exec}
 use Rattle.ir.specs.declared.PortRef.{PortRef}
 use Rattle.graph.specs.Graph.{member}
-use Rattle.model.specs.Maps.{Map, All}
+use Rattle.model.specs.Maps.{Map, All, Distinct}
 use Rattle.model.specs.Offer.{PlanAction, BecomeLiteral, ShortCircuit, Truncate}
 use Rattle.model.specs.Rewrite.{both, collect, arrive, reach, Enters, Targets, TargetCycle}
 use Rattle.model.proofs.Maps.{Same, same?, by-bool, none-some}
-use Rattle.model.proofs.Lists.{Distinct, distinct-below}
+use Rattle.model.proofs.Lists.{distinct-below}
 use Rattle.model.proofs.TargetCounts.{both-some}
 
 -- ---- chains

@@ -37,7 +37,7 @@ pub record FirstEndless (p : Map PlanAction) (ws : List Wire) (i : ℕ) : Type 0
   pub endless : Endless p (getD ws i noWire)
   pub first : (j : ℕ) → j < i → Endless p (getD ws j noWire) → ⊥
 
--- the number and the place with which an input is refused, where the buffer has `room` bytes. 11 is never given
+-- the number and the place with which an input is refused, where the buffer has `room` bytes
 pub data Refused (input : List ℕ) (room : ℕ) : ℕ → ℕ → Type 0 where
   -- 1 to 8: the first question that is answered with no
   decoding : {n p : ℕ} → decode input ≡ refused n p → Refused input room n p

@@ -1,9 +1,11 @@
 -- Partial maps from node numbers, and small functions on lists.
 use Prim.Native.Nat.{ℕ, zero, suc}
+use mathlib.Core.Path.{_≡_}
 use mathlib.Core.Bool.{Bool, true, false, cond, _||_}
 use mathlib.Core.Option.{Option, none, some}
 use mathlib.Core.List.{List, [], _∷_, _++_}
 use lib.Dec.{eqb}
+use Rattle.graph.specs.Graph.{member}
 
 unfoldable pub isSome : {A : Type 0} → Option A → Bool
 isSome none = false
@@ -33,6 +35,11 @@ any f (x ∷ xs) = f x || any f xs
 abbrev pub All : {A : Type 0} → (A → Type 0) → List A → Type 0
 All P [] = Unit {0}
 All P (x ∷ xs) = P x × All P xs
+
+-- no number stands in the list twice
+abbrev pub Distinct : List ℕ → Type 0
+Distinct [] = Unit {0}
+Distinct (x ∷ xs) = (member x xs ≡ false) × Distinct xs
 
 -- the numbers below n, from 0
 unfoldable pub upTo : ℕ → List ℕ

@@ -14,7 +14,7 @@ use Rattle.graph.specs.Decode.{Verdict, accepted, refused, decode}
 use Rattle.model.specs.Maps.{Map, isSome}
 use Rattle.model.specs.Inputs.{size}
 use Rattle.model.specs.Offer.{PlanAction, literals}
-use Rattle.model.specs.Worklist.{Work, worklist, alwaysJoins}
+use Rattle.model.specs.Worklist.{Work, worklist}
 use Rattle.model.specs.Rewrite.{rewriteWire, rewriteWires}
 use Rattle.model.specs.Answer.{answer}
 
@@ -34,11 +34,11 @@ pub data Rewriting : Type 0 where
   wires : List Wire → Rewriting
   stops : (number place : ℕ) → Rewriting
 
--- 11. "Are there at most 4,096 rewritten wires .. ? No: 10, place 0."
+-- 10. "Are there at most 4,096 rewritten wires .. ? No: 10, place 0."
 unfoldable pub counted : List Wire → Rewriting
 counted ws = cond (leb (length ws) maxWires) (wires ws) (stops 10 0)
 
--- 10. "Does each wire's rewriting end .. ? No: 9, place the offset of the first such wire record."
+-- 9. "Does each wire's rewriting end .. ? No: 9, place the offset of the first such wire record."
 unfoldable pub ending : Graph → Map PlanAction → Option (List Wire) → Rewriting
 ending g p none = stops 9 (wireOffset g (endlessIndex p (size g) (g .wires)))
 ending g p (some ws) = counted ws
@@ -52,7 +52,7 @@ pub data Result : Type 0 where
   folds : (answer : List ℕ) (pops : ℕ) → Result
   refuses : (number place : ℕ) → Result
 
--- 11. ".. and does the buffer hold the answer? No: 10, place 0."
+-- 10. ".. and does the buffer hold the answer? No: 10, place 0."
 unfoldable pub measured : ℕ → List ℕ → ℕ → Result
 measured room a pops = cond (leb (length a) room) (folds a pops) (refuses 10 0)
 
@@ -60,10 +60,9 @@ unfoldable pub answered : Graph → Work → ℕ → Rewriting → Result
 answered g w room (stops n p) = refuses n p
 answered g w room (wires ws) = measured room (answer (size g) (w .state) ws) (w .pops)
 
--- 9. "Can a consumer always join the waiting line of 1,024 places? No: 11, place 0." Then 10 and 11
+-- questions 9 and 10 of a graph
 unfoldable pub foldGraph : Map Value → Graph → ℕ → Result
-foldGraph own g room =
-    cond (alwaysJoins own g) (answered g (worklist own g) room (rewritten g (worklist own g .state .plan))) (refuses 11 0)
+foldGraph own g room = answered g (worklist own g) room (rewritten g (worklist own g .state .plan))
 
 unfoldable pub byVerdict : ℕ → Verdict → Result
 byVerdict room (refused n p) = refuses n p

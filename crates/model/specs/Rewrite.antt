@@ -1,4 +1,4 @@
--- The rewriting of wires by a plan (document 01, "Rewriting, wire by wire"), and question 10 in its words.
+-- The rewriting of wires by a plan (document 01, "Rewriting, wire by wire"), and question 9 in its words.
 use Prim.Native.Nat.{ℕ, zero, suc}
 use mathlib.Core.Path.{_≡_}
 use mathlib.Core.Bool.{cond}
@@ -67,7 +67,7 @@ rewriteWire p nodes w = joined (reach p nodes (w .target)) (follow p nodes (w .s
 unfoldable pub rewriteWires : Map PlanAction → ℕ → List Wire → Option (List Wire)
 rewriteWires p nodes ws = collect (rewriteWire p nodes) ws
 
--- ---- question 10
+-- ---- question 9
 
 -- a wire into e becomes one into t: e is a planned Branch's Exec, and t a target that the Branch takes
 pub record Enters (p : Map PlanAction) (e t : PortRef) : Type 0 where

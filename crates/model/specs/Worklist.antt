@@ -1,12 +1,14 @@
 -- The worklist (document 01, "The waiting line starts with all nodes in number order. ..").
-use Prim.Native.Nat.{ℕ, zero, suc, _+_}
+use Prim.Native.Nat.{ℕ, suc, _+_, _<_, _≤_}
+use mathlib.Core.Path.{_≡_}
 use mathlib.Core.Bool.{Bool, cond, not, _&&_}
+use mathlib.Core.Option.{none}
 use mathlib.Core.List.{List, [], _∷_, _++_}
-use lib.Dec.{eqb, leb}
+use lib.Dec.{eqb}
 use lib.ListN.{length}
 use Rattle.value.specs.declared.Value.{Value}
 use Rattle.graph.specs.Graph.{Graph, member}
-use Rattle.model.specs.Maps.{Map, isSome, keep, any, upTo, iterate}
+use Rattle.model.specs.Maps.{Map, isSome, keep, any, All, Distinct, upTo, iterate}
 use Rattle.model.specs.Inputs.{size}
 use Rattle.model.specs.Trial.{State, empty, trial}
 
@@ -18,6 +20,7 @@ consumes g n c = any (λ w. eqb (w .source .«node_id») n && eqb (w .target .«
 unfoldable pub joiners : Graph → Map Value → List ℕ → ℕ → List ℕ
 joiners g known queue n = keep (λ c. consumes g n c && not (isSome (known c)) && not (member c queue)) (upTo (size g))
 
+-- "The waiting line is a struct that holds its 1,024 places."
 abbrev pub queuePlaces : ℕ
 queuePlaces = 1024
 
@@ -56,10 +59,10 @@ module _ (own : Map Value) (g : Graph) where
   unfoldable pub worklist : Work
   worklist = after (size g + length (g .wires))
 
-  -- question 9, "Can a consumer always join the waiting line of 1,024 places?": the line that each of the first k pops leaves has no more
-  unfoldable pub joins : ℕ → Bool
-  joins zero = leb (length (after 0 .queue)) queuePlaces
-  joins (suc k) = joins k && leb (length (after (suc k) .queue)) queuePlaces
-
-  unfoldable pub alwaysJoins : Bool
-  alwaysJoins = joins (size g + length (g .wires))
+-- "A node waits at most a single time and there are at most 1,024, so the line always has a place": distinct nodes wait, no more than there are places, and a node that
+-- waits is not known
+pub record Waiting (g : Graph) (w : Work) : Type 0 where
+  pub once : Distinct (w .queue)
+  pub nodes : All (λ c. c < size g) (w .queue)
+  pub places : length (w .queue) ≤ queuePlaces
+  pub unknown : All (λ c. w .state .known c ≡ none) (w .queue)

@@ -16,26 +16,20 @@ use Rattle.ir.specs.Ports.{exec}
 use Rattle.ir.specs.declared.PortRef.{PortRef}
 use Rattle.ir.specs.declared.Wire.{Wire}
 use Rattle.graph.specs.Graph.{member}
-use Rattle.model.specs.Maps.{All}
+use Rattle.model.specs.Maps.{All, Distinct}
 use Rattle.model.specs.Offer.{PlanAction}
 use Rattle.model.specs.TargetCounts.{countAt, takenTargets, round, rounds}
 use Rattle.model.proofs.Maps.{by-bool, _≼_, eqb-same}
-use Rattle.model.proofs.Lists as Lists
-use Rattle.model.proofs.Lists.{all-weaken, or-right, or-false-right}
+use Rattle.model.proofs.Lists.{all-weaken, or-right, or-false-right, distinct-below}
 use Rattle.wire_index.specs.Chains.{Chain}
 use Rattle.wire_index.proofs.Rises.{absent}
 use Rattle.state.specs.Planned.{targetsIn, shapeOf}
 use Rattle.rewrite.specs.Counts.{noCount, entry, countIn}
 use Rattle.rewrite.specs.Taken.{takenWires}
-use Rattle.rewrite.specs.Search.{Distinct, unseen, sumOf, Waits, Frame, Above, Waiting, Blocked, Stacked, Searching}
+use Rattle.rewrite.specs.Search.{unseen, sumOf, Waits, Frame, Above, Waiting, Blocked, Stacked, Searching}
 use Rattle.rewrite.proofs.Shapes.{Action, kept, literal, select, branch, action, shape-kept, shape-literal, shape-select, shape-branch}
 use Rattle.rewrite.proofs.Totals.{entry-some, entry-is, total-more, sum-nil, sum-more}
 use Rattle.rewrite.proofs.Rounds.{rounds-more}
-
--- as the model's law on distinct numbers has it
-distinct : (xs : List ℕ) → Distinct xs → Lists.Distinct xs
-distinct [] d = d
-distinct (x ∷ xs) d = (d .0, distinct xs (d .1))
 
 -- ---- lists
 
@@ -153,13 +147,13 @@ module _ (ws : List Wire) (actions details next : List ℕ) where
     lows = all-weaken _ _ (λ x f. branch-inside x (f .branch)) (s .path) (s .frames)
 
     pub few : depth ≤ maxNodes
-    few = omega (arith, Lists.distinct-below maxNodes (s .path) (distinct (s .path) (s .distinct)) lows, stack-length stack (s .path) depth (s .stacked))
+    few = omega (arith, distinct-below maxNodes (s .path) (s .distinct) lows, stack-length stack (s .path) depth (s .stacked))
 
     -- a Branch that is not on the stack has room there
     pub room : (b : ℕ) → getD actions b 0 ≡ 3 → getD counts b 0 ≡ unseen → depth < maxNodes
     room b h u =
         let off : member b (s .path) ≡ false = absent (λ x. getD counts x 0 ≡ noCount) b (s .path) pendings (λ e. omega arith) in
-        omega (arith, Lists.distinct-below maxNodes (b ∷ s .path) (off, distinct (s .path) (s .distinct)) (branch-inside b h, lows), stack-length stack (s .path) depth (s .stacked))
+        omega (arith, distinct-below maxNodes (b ∷ s .path) (off, s .distinct) (branch-inside b h, lows), stack-length stack (s .path) depth (s .stacked))
 
     -- ---- a Branch is entered
 

@@ -15,18 +15,13 @@ use Rattle.ir.specs.declared.PortRef.{PortRef}
 use Rattle.ir.specs.declared.Wire.{Wire}
 use Rattle.graph.specs.Graph.{member}
 use Rattle.records.specs.Access.{noWire}
-use Rattle.model.specs.Maps.{All}
+use Rattle.model.specs.Maps.{All, Distinct}
 use Rattle.model.specs.TargetCounts.{plus, total, rounds}
 use Rattle.wire_index.specs.Chains.{Chain}
 use Rattle.state.specs.Planned.{targetsIn, shapeOf}
 use Rattle.rewrite.specs.Counts.{noCount, entry, countIn}
 use Rattle.rewrite.specs.Taken.{takenWires, Later}
 use Rattle.rewrite.specs.declared.counts.Reached.{Reached}
-
--- no number stands in the list twice
-abbrev pub Distinct : List ℕ → Type 0
-Distinct [] = Unit {0}
-Distinct (x ∷ xs) = (member x xs ≡ false) × Distinct xs
 
 -- what a Branch has before the search comes to it
 abbrev pub unseen : ℕ

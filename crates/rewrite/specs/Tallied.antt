@@ -24,12 +24,12 @@ use Rattle.rewrite.specs.declared.Origin.the-variants.{Cycles, Drops, Fr
 use Rattle.rewrite.specs.declared.Rewriting.{Rewriting}
 use Rattle.rewrite.specs.declared.Rewriting.the-variants.{Endless, Wires}
 
--- question 10: some wire's rewriting does not end, and the first such has this number
+-- question 9: some wire's rewriting does not end, and the first such has this number
 pub record Stuck (p : Map PlanAction) (n : ℕ) (ws : List Wire) (index : ℕ) : Type 0 where
   pub endless : rewriteWires p n ws ≡ none
   pub first : index ≡ endlessIndex p n ws
 
--- question 11: how many wires there are at the end, or 4097 where there are more than 4096
+-- question 10: how many wires there are at the end, or 4097 where there are more than 4096
 pub record Counted (p : Map PlanAction) (n : ℕ) (ws : List Wire) (count : ℕ) : Type 0 where
   pub rewritten : List Wire
   pub ends : rewriteWires p n ws ≡ some rewritten

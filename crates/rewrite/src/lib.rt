@@ -61,7 +61,7 @@ pub fn has_action(actions: &[u8; limit::NODES], nodes: usize, action: u8) -> boo
     found
 }
 
-// Questions 10 and 11. The arrays then hold what an emission of the rewritten wires needs: for each planned Select the wire that its source comes
+// Questions 9 and 10. The arrays then hold what an emission of the rewritten wires needs: for each planned Select the wire that its source comes
 // to, for each planned Branch the count of its unplanned targets, and the chain of the taken wires that lead to one.
 pub fn rewrite(
     wires: &[u8],

@@ -1,4 +1,4 @@
-// Questions 10 and 11: whether each wire's rewriting ends, and how many wires there are at the end.
+// Questions 9 and 10: whether each wire's rewriting ends, and how many wires there are at the end.
 use crate::NO_COUNT;
 use crate::Origin;
 use crate::Rewriting;

@@ -7,7 +7,6 @@ use ir::limit;
 use records::access;
 use state::WORDS;
 use table::CELLS;
-use worklist::Worked;
 ghost use mathlib.Core.Path.{_≡_};
 ghost use Rattle.graph.specs.Decode.{decode, graphOf};
 ghost use Rattle.graph.specs.Index.{Indexed};
@@ -36,7 +35,7 @@ fn count_pops(
     let mut words = [0u64; WORDS];
     let mut actions = [0u8; limit::NODES];
     let mut details = [0u16; limit::NODES];
-    let Worked::Pops(pops) = worklist::run(
+    worklist::run(
         input,
         counts,
         table,
@@ -50,10 +49,7 @@ fn count_pops(
         &mut words,
         &mut actions,
         &mut details,
-    ) else {
-        return 0;
-    };
-    pops
+    )
 }
 
 // The pops of the worklist of an accepted input.

@@ -16,10 +16,11 @@ use Rattle.model.specs.Maps.{upTo}
 use Rattle.model.specs.Worklist.{queuePlaces}
 use Rattle.model.specs.Arrays.{queueOf}
 use Rattle.model.proofs.Maps.{Same, same?}
-use Rattle.model.proofs.Lists.{or-right, member-append}
+use Rattle.model.proofs.Lists.{or-right, member-append, all-append}
+use Rattle.model.proofs.QueueLength.{upTo-out, distinct-more, finds-place}
 use Rattle.model.proofs.Arrays.{queue-push, queue-front}
 use Rattle.worklist.specs.declared.queue.Queue.{Queue}
-use Rattle.worklist.specs.Queue.{Queued, Filled}
+use Rattle.worklist.specs.Queue.{Queued, Waits}
 
 length-queue : (places : List ℕ) (head k : ℕ) → length (queueOf places head k) ≡ k
 unfolding queueOf
@@ -50,16 +51,21 @@ unmark marks n queue e h f m d l = go (same? n d)
     go (inr q) = getD-set-other marks n d false false (λ x. eqb-false n d q (sym x)) ∙ m d l ∙ rw q
 
 module _ {marks : List Bool} {places : List ℕ} {head count : ℕ} {queue : List ℕ} (q : Queued marks places head count queue) where
+  -- a node that does not wait finds a place
+  pub queued-place : (c : ℕ) → c < maxNodes → member c queue ≡ false → count < queuePlaces
+  queued-place c h m = omega (arith, finds-place queue c (q .once) (q .nodes) h m, length-queued q)
+
   -- one more at the back, which is marked
-  pub queued-more : (c : ℕ) → c < maxNodes → count < queuePlaces → Queued (set marks c true) (set places ((head + count) % queuePlaces) c) head (count + 1) (queue ++ (c ∷ []))
-  queued-more c h l =
+  pub queued-more : (c : ℕ) → c < maxNodes → member c queue ≡ false → Queued (set marks c true) (set places ((head + count) % queuePlaces) c) head (count + 1) (queue ++ (c ∷ []))
+  queued-more c h m =
       record {
         marks-long = simp length-set (q .marks-long);
         places-long = simp length-set (q .places-long);
         head-in = q .head-in;
-        count-in = omega arith;
-        waits = rw add-one (queue-push places head count c (q .places-long) (q .head-in) l) ∙ ap (λ (x : List ℕ). x ++ (c ∷ [])) (q .waits);
+        waits = rw add-one (queue-push places head count c (q .places-long) (q .head-in) (queued-place c h m)) ∙ ap (λ (x : List ℕ). x ++ (c ∷ [])) (q .waits);
         marked = mark marks c queue (q .marks-long) h (q .marked);
+        once = distinct-more queue c (q .once) m;
+        nodes = all-append (λ x. x < maxNodes) queue (c ∷ []) (q .nodes) (h, tt);
       }
 
   -- the front, and those behind it
@@ -69,52 +75,53 @@ module _ {marks : List Bool} {places : List ℕ} {head count : ℕ} {queue : Lis
       sym (q .waits) ∙ ap (λ (k : ℕ). queueOf places head k) e ∙ queue-front places head (count - 1) (q .head-in)
 
   -- the queue without its front, which is marked no more
-  pub queued-rest : (n : ℕ) (rest : List ℕ) → queue ≡ n ∷ rest → 0 < count → n < maxNodes → member n rest ≡ false → rest ≡ queueOf places ((head + 1) % queuePlaces) (count - 1) → Queued (set marks n false) places ((head + 1) % queuePlaces) (count - 1) rest
-  queued-rest n rest e h l f r =
+  pub queued-rest : 0 < count → Waits (set marks (getD places head 0) false) places ((head + 1) % queuePlaces) (count - 1)
+  queued-rest h =
+      let once = rw (queued-front h) at (q .once) in
+      let nodes = rw (queued-front h) at (q .nodes) in
       record {
         marks-long = simp length-set (q .marks-long);
         places-long = q .places-long;
         head-in = omega arith;
-        count-in = omega (arith, q .count-in);
-        waits = sym r;
-        marked = unmark marks n rest (q .marks-long) l f (rw e at (q .marked));
+        waits = refl;
+        marked = unmark marks (getD places head 0) _ (q .marks-long) (nodes .0) (once .0) (rw (queued-front h) at (q .marked));
+        once = once .1;
+        nodes = nodes .1;
       }
+
+  -- what waits, as the places hold it
+  pub queued-waits : Waits marks places head count
+  queued-waits = rw (q .waits) q
 
 false-at : (k c : ℕ) → getD (replicate k false) c false ≡ false
 false-at zero c = refl
 false-at (suc k) zero = refl
 false-at (suc k) (suc c) = false-at k c
 
+-- ---- the start
+
 -- none waits
-pub queued-none : Queued (replicate maxNodes false) (replicate queuePlaces 0) 0 0 []
+pub queued-none : {marks : List Bool} {queue : Queue} → marks ≡ replicate maxNodes false → queue ≡ record { places = replicate queuePlaces 0; head = 0; count = 0 } → Queued marks (queue .places) 0 0 []
 unfolding queueOf member
-queued-none =
-    record {
+queued-none m e =
+    rw (m, e)
+    (record {
       marks-long = length-replicate maxNodes false;
       places-long = length-replicate {A = ℕ} queuePlaces 0;
       head-in = omega arith;
-      count-in = omega arith;
       waits = refl;
       marked = λ c l. false-at maxNodes c;
-    }
+      once = tt;
+      nodes = tt;
+    })
 
--- ---- the start
-
-module _ {marks₀ : List Bool} {places₀ : List ℕ} where
-  pub fill-starts : Filled 0 marks₀ places₀ marks₀ places₀
-  unfolding upTo
-  fill-starts = record { law = λ q. q }
-
-  pub fill-on : {n : ℕ} {marks : List Bool} {places : List ℕ} → n < maxNodes → Filled n marks₀ places₀ marks places → Filled (n + 1) marks₀ places₀ (set marks n true) (set places n n)
-  unfolding upTo
-  fill-on {n} l f =
-      record {
-        law = λ q.
-            let at : (0 + n) % queuePlaces ≡ n = omega arith in
-            rw add-one (rw (add-one, at) at (queued-more (f .law q) n l l));
-      }
+-- the next node joins
+pub fill-on : {n : ℕ} {marks : List Bool} {places : List ℕ} → n < maxNodes → Queued marks places 0 n (upTo n) → Queued (set marks n true) (set places n n) 0 (n + 1) (upTo (n + 1))
+unfolding upTo
+fill-on {n} l q =
+    let at : (0 + n) % queuePlaces ≡ n = omega arith in
+    rw add-one (rw (add-one, at) at (queued-more q n l (upTo-out n)))
 
 -- all nodes wait
-pub filled : {nodes : ℕ} {marks₀ marks : List Bool} {places : List ℕ} {new queue : Queue} → marks₀ ≡ replicate maxNodes false → new ≡ record { places = replicate queuePlaces 0; head = 0; count = 0 } → Filled nodes marks₀ (new .places) marks places
-    → queue ≡ record { places = places; head = new .head; count = nodes } → Queued marks (queue .places) (queue .head) (queue .count) (upTo nodes)
-filled m e f q = rw (q, e) (rw (m, e) at f .law queued-none)
+pub filled : {nodes : ℕ} {marks : List Bool} {places : List ℕ} {new queue : Queue} → new ≡ record { places = replicate queuePlaces 0; head = 0; count = 0 } → Queued marks places 0 nodes (upTo nodes) → queue ≡ record { places = places; head = new .head; count = nodes } → Queued marks (queue .places) (queue .head) (queue .count) (upTo nodes)
+filled e f q = rw (q, e) f

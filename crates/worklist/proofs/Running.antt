@@ -1,29 +1,30 @@
 -- The loop: where it starts, goes on and ends.
 use mathlib.Core.Path.{_≡_, refl, sym, ap, _∙_}
 use mathlib.Core.Bool.{Bool, false}
+use mathlib.Core.Option.{none}
 use mathlib.Core.List.{List, [], _∷_}
 use Prim.Native.Nat.{ℕ, _+_, _-_, _%_, _<_, _≤_}
 use native.Mathlib.Omega.{arith}
 use native.Mathlib.Numerals.{add-one}
-use lib.ListN.{length, getD}
+use lib.ListN.{length, getD, set}
 use Rattle.ir.specs.Limits.{maxNodes}
+use Rattle.value.specs.declared.Value.{Value}
 use Rattle.graph.specs.Graph.{Graph, countsOf}
 use Rattle.graph.specs.declared.Counts.{Counts}
 use Rattle.records.specs.Access.{Bounded}
-use Rattle.model.specs.Maps.{iterate, upTo}
+use Rattle.model.specs.Maps.{Map, iterate, upTo}
 use Rattle.model.specs.Inputs.{size}
 use Rattle.model.specs.Offer.{literals}
 use Rattle.model.specs.Trial.{empty}
-use Rattle.model.specs.Worklist.{queuePlaces, Work, start, pop, after, worklist, alwaysJoins}
+use Rattle.model.specs.Worklist.{queuePlaces, Work, start, pop, after, worklist, Waiting}
 use Rattle.model.specs.Arrays.{queueOf}
 use Rattle.model.proofs.Order.{spent}
-use Rattle.model.proofs.QueueLength.{Waiting, waiting, queue-length, always-joins}
+use Rattle.model.proofs.QueueLength.{waiting}
 use Rattle.model.proofs.Turns.{after-suc, turn, goes-on, stops}
+use Rattle.state.specs.Held.{knownOf}
 use Rattle.state.specs.Planned.{Holds}
-use Rattle.worklist.specs.declared.consumers.Joined.{Joined}
-use Rattle.worklist.specs.declared.consumers.Joined.the-variants.{Waiting as Waits, NoPlace}
 use Rattle.worklist.specs.declared.queue.Queue.{Queue}
-use Rattle.worklist.specs.Queue.{Queued}
+use Rattle.worklist.specs.Queue.{Queued, Waits}
 use Rattle.worklist.specs.Turns.{Popped, Turned, Finished}
 use Rattle.worklist.proofs.Queues.{queued-front, queued-rest}
 
@@ -48,9 +49,6 @@ at-start {g = g} e h q = record { holds = h; queued = rw (nodes-are g e) at q; p
 abbrev restOf : Queue → Queue
 restOf q = record { places = q .places; head = (q .head + 1) % queuePlaces; count = q .count - 1 }
 
-pub rest-head : (queue : Queue) {next : Queue} → next ≡ restOf queue → next .head < queuePlaces
-rest-head queue e = omega (arith, ap (λ (q : Queue). q .head) e)
-
 module _ {g : Graph} {pops : ℕ} {kinds words actions details : List ℕ} {marks : List Bool} {queue : Queue} (a : At g pops kinds words actions details marks queue) (b : Bounded (g .wires) (size g)) where
   pub at-most : pops ≤ size g + length (g .wires)
   at-most = omega (arith, spent (literals g) g pops, a .popped)
@@ -64,7 +62,6 @@ module _ {g : Graph} {pops : ℕ} {kinds words actions details : List ℕ} {mark
       record {
         holds = rw done (a .holds);
         pops-are = sym (a .popped) ∙ ap (λ (w : Work). w .pops) (sym done);
-        joins = always-joins (literals g) g (b .few-nodes);
       }
 
   module _ (waits : 0 < queue .count) where
@@ -74,15 +71,19 @@ module _ {g : Graph} {pops : ℕ} {kinds words actions details : List ℕ} {mark
     front : after (literals g) g pops .queue ≡ getD (queue .places) (queue .head) 0 ∷ rest
     front = queued-front (a .queued) waits
 
-    distinct : Waiting (size g) (getD (queue .places) (queue .head) 0 ∷ rest)
-    distinct = rw front at (waiting (literals g) g pops)
+    now-waiting : Waiting g (after (literals g) g pops)
+    now-waiting = waiting (literals g) g (b .few-nodes) pops
 
     pub at-less : pops < size g + length (g .wires)
     at-less = omega (arith, goes-on (literals g) g pops _ _ front, a .popped)
 
     module _ {n : ℕ} (is-front : n ≡ getD (queue .places) (queue .head) 0) where
       pub at-node : n < size g
-      at-node = rw is-front (distinct .below .0)
+      at-node = rw is-front ((rw front at (now-waiting .nodes)) .0)
+
+      -- a waiting node is not known
+      pub at-unknown : knownOf kinds words n ≡ none
+      at-unknown = ap (λ (f : Map Value). f n) (sym (a .holds .known)) ∙ rw is-front ((rw front at (now-waiting .unknown)) .0)
 
       step : after (literals g) g (pops + 1) ≡ pop (literals g) g (after (literals g) g pops .state) (after (literals g) g pops .pops) n rest
       step = rw (add-one pops, is-front) (after-suc (literals g) g pops ∙ turn (literals g) g (after (literals g) g pops) _ rest front)
@@ -91,19 +92,13 @@ module _ {g : Graph} {pops : ℕ} {kinds words actions details : List ℕ} {mark
       unfolding pop
       next-pops = ap (λ (w : Work). w .pops) step ∙ rw (add-one, a .popped)
 
-      module _ {next : Queue} (is-rest : next ≡ restOf queue) {kinds' words' actions' details' : List ℕ} {marks' : List Bool} {places' : List ℕ} {r : Joined} (t : Turned g n (next .head) (next .count) kinds words actions details marks (next .places) kinds' words' actions' details' marks' places' r) where
-        turned : Popped g kinds' words' actions' details' marks' places' (next .head) r (after (literals g) g (pops + 1))
-        turned = rw step (t .law _ _ rest (a .holds) (rw (is-rest, is-front) (queued-rest (a .queued) _ rest front waits (omega (arith, distinct .below .0, b .few-nodes)) (distinct .distinct .0) refl)))
+      module _ {next : Queue} (is-rest : next ≡ restOf queue) where
+        pub at-rest : Waits (set marks n false) (next .places) (next .head) (next .count)
+        at-rest = rw (is-rest, is-front) (queued-rest (a .queued) waits)
 
         -- the next turn
-        pub at-next : {count : ℕ} {longer : Queue} → r ≡ Waits count → longer ≡ record { places = places'; head = next .head; count = count } → At g (pops + 1) kinds' words' actions' details' marks' longer
-        at-next e l =
-            record {
-              holds = turned .holds;
-              queued = rw l (rw e at (turned .queue));
-              popped = next-pops;
-            }
-
-        -- there is always a place
-        pub at-none : r ≡ NoPlace → alwaysJoins (literals g) g ≡ false
-        at-none e = let bad : ⊥ = omega (arith, rw e at (turned .queue), queue-length (literals g) g (pops + 1), b .few-nodes) in absurd bad
+        pub at-next : {kinds' words' actions' details' : List ℕ} {marks' : List Bool} {places' : List ℕ} {count : ℕ} → Turned g n (next .head) (next .count) kinds words actions details (next .places) kinds' words' actions' details' marks' places' count
+            → {longer : Queue} → longer ≡ record { places = places'; head = next .head; count = count } → At g (pops + 1) kinds' words' actions' details' marks' longer
+        at-next {kinds'} {words'} {actions'} {details'} {marks'} {places'} {count} t l =
+            let turned : Popped g kinds' words' actions' details' marks' places' (next .head) count (after (literals g) g (pops + 1)) = rw (step, sym (ap (λ (q : Queue). queueOf (q .places) (q .head) (q .count)) is-rest)) (t .law _ _ (a .holds)) in
+            record { holds = turned .holds; queued = rw l (turned .queue); popped = next-pops }

@@ -5,16 +5,10 @@ use ir::limit;
 use records::access;
 ghost use Prim.Native.Nat.{_<_};
 ghost use Rattle.ir.specs.Limits.{maxNodes};
-ghost use Rattle.model.specs.Worklist.{queuePlaces};
+ghost use Rattle.worklist.specs.Queue.{Waits};
 ghost use Rattle.worklist.specs.Joins.{OneJoined, Chained, ConsumersJoined};
 
-// How many nodes wait after joining, or that there was no place for one of them.
-pub enum Joined {
-    Waiting(usize),
-    NoPlace,
-}
-
-// Node c joins the `count` waiting ones.
+// Node c joins the `count` waiting ones, unless it is one of them or is known. How many wait then.
 fn join_one(
     kinds: &[u8; limit::NODES],
     marks: &mut [bool; limit::NODES],
@@ -22,24 +16,22 @@ fn join_one(
     head: usize,
     count: usize,
     c: usize,
-) -> Joined
-    requires { ⌜ (c < maxNodes) × (head < queuePlaces) ⌝ }
-    ensures { λ r. ⌜ OneJoined (now (kinds .entry)) c head (now (marks .entry)) (now (places .entry)) count (now (marks .exit)) (now (places .exit)) r ⌝ }
+) -> usize
+    requires { ⌜ (c < maxNodes) × Waits (now marks) (now places) head count ⌝ }
+    ensures { λ r. ⌜ OneJoined (now (kinds .entry)) c head (now (places .entry)) count (now (marks .exit)) (now (places .exit)) r ⌝ }
 {
-    if state::is_known(kinds, c) {
-        return Joined::Waiting(count);
-    }
     if marks[c] {
-        return Joined::Waiting(count);
+        return count;
     }
-    if queue::push(places, head, count, c) {
-        marks[c] = true;
-        return Joined::Waiting(count + 1);
+    if state::is_known(kinds, c) {
+        return count;
     }
-    Joined::NoPlace
+    queue::push(places, head, count, c);
+    marks[c] = true;
+    count + 1
 }
 
-// The consumers of node n join in number order, which is that of its chain. A chain has no more than limit::WIRES wires.
+// The consumers of node n join in number order, which is that of its chain. `left` bounds the walk: a chain has no more than limit::WIRES wires. How many nodes wait then.
 pub fn join(
     wires: &[u8],
     first: &[u16; limit::NODES],
@@ -50,9 +42,9 @@ pub fn join(
     head: usize,
     count: usize,
     n: usize,
-) -> Joined
-    requires { ⌜ Chained (now wires) (now first) (now next) n × (n < maxNodes) × (head < queuePlaces) ⌝ }
-    ensures { λ r. ⌜ ConsumersJoined (now (wires .entry)) (now (kinds .entry)) n head (now (marks .entry)) (now (places .entry)) count (now (marks .exit)) (now (places .exit)) r ⌝ }
+) -> usize
+    requires { ⌜ Chained (now wires) (now first) (now next) n × (n < maxNodes) × Waits (now marks) (now places) head count ⌝ }
+    ensures { λ r. ⌜ ConsumersJoined (now (wires .entry)) (now (kinds .entry)) n head (now (places .entry)) count (now (marks .exit)) (now (places .exit)) r ⌝ }
 {
     let mut total = count;
     let mut code = queue::wide(first[n]);
@@ -60,12 +52,9 @@ pub fn join(
     while code != 0 {
         let wire = access::wire(wires, code - 1);
         let target = wire.target.node_id;
-        let Joined::Waiting(waiting) = join_one(kinds, marks, places, head, total, target) else {
-            return Joined::NoPlace;
-        };
-        total = waiting;
+        total = join_one(kinds, marks, places, head, total, target);
         code = queue::wide(next[code - 1]);
         left -= 1;
     }
-    Joined::Waiting(total)
+    total
 }

@@ -2,28 +2,24 @@
 pub mod consumers;
 pub mod queue;
 
-use crate::consumers::Joined;
 use crate::queue::QUEUE_PLACES;
 use graph::Counts;
 use graph::SLOTS;
 use ir::limit;
 use state::WORDS;
 use table::CELLS;
+ghost use mathlib.Core.Path.{_≡_};
+ghost use mathlib.Core.Option.{none};
 ghost use Prim.Native.Nat.{_<_};
 ghost use Rattle.graph.specs.Decode.{graphOf};
 ghost use Rattle.model.specs.Inputs.{size};
-ghost use Rattle.model.specs.Worklist.{queuePlaces};
+ghost use Rattle.state.specs.Held.{knownOf};
 ghost use Rattle.wire_index.specs.Chains.{Consumers};
 ghost use Rattle.resolve.specs.Reads.{Reads};
-ghost use Rattle.worklist.specs.Turns.{Turned, Ran};
+ghost use Rattle.worklist.specs.Queue.{Waits};
+ghost use Rattle.worklist.specs.Turns.{Turned, Finished};
 
-// How the worklist ended: the pops, or that a consumer found no place in the queue.
-pub enum Worked {
-    Pops(usize),
-    NoPlace,
-}
-
-// Node n, taken from the front, is tried unless it is known; where it is newly known, its consumers join those that wait.
+// Node n, taken from the front, is tried; where it is then known, its consumers join those that wait. How many wait then.
 fn turn(
     input: &[u8],
     counts: Counts,
@@ -43,15 +39,11 @@ fn turn(
     head: usize,
     count: usize,
     n: usize,
-) -> Joined
-    requires { ⌜ Reads (graphOf (now input)) counts (now input) (now table) (now wires) (now rows) (now «feeds_first») (now «feeds_next») × Consumers (graphOf (now input) .wires) (now first) (now next) × (n < size (graphOf (now input))) × (head < queuePlaces) ⌝ }
-    ensures { λ r. ⌜ Turned (graphOf (now (input .entry))) n head count (now (kinds .entry)) (now (words .entry)) (now (actions .entry)) (now (details .entry)) (now (marks .entry)) (now (places .entry))
+) -> usize
+    requires { ⌜ Reads (graphOf (now input)) counts (now input) (now table) (now wires) (now rows) (now «feeds_first») (now «feeds_next») × Consumers (graphOf (now input) .wires) (now first) (now next) × (n < size (graphOf (now input))) × (knownOf (now kinds) (now words) n ≡ none) × Waits (now marks) (now places) head count ⌝ }
+    ensures { λ r. ⌜ Turned (graphOf (now (input .entry))) n head count (now (kinds .entry)) (now (words .entry)) (now (actions .entry)) (now (details .entry)) (now (places .entry))
         (now (kinds .exit)) (now (words .exit)) (now (actions .exit)) (now (details .exit)) (now (marks .exit)) (now (places .exit)) r ⌝ }
 {
-    marks[n] = false;
-    if state::is_known(&*kinds, n) {
-        return Joined::Waiting(count);
-    }
     let trial = resolve::try_resolve(
         input,
         counts,
@@ -67,10 +59,10 @@ fn turn(
     if state::store(kinds, words, actions, details, n, trial) {
         return consumers::join(wires, first, next, &*kinds, marks, places, head, count, n);
     }
-    Joined::Waiting(count)
+    count
 }
 
-// Each node that is taken from the front of the queue is tried, one pop each, until none waits.
+// Each node that is taken from the front of the queue is tried, one pop each, until none waits. The pops.
 pub fn run(
     input: &[u8],
     counts: Counts,
@@ -85,9 +77,9 @@ pub fn run(
     words: &mut [u64; WORDS],
     actions: &mut [u8; limit::NODES],
     details: &mut [u16; limit::NODES],
-) -> Worked
+) -> usize
     requires { ⌜ Reads (graphOf (now input)) counts (now input) (now table) (now wires) (now rows) (now «feeds_first») (now «feeds_next») × Consumers (graphOf (now input) .wires) (now first) (now next) ⌝ }
-    ensures { λ r. ⌜ Ran (graphOf (now (input .entry))) (now (kinds .exit)) (now (words .exit)) (now (actions .exit)) (now (details .exit)) r ⌝ }
+    ensures { λ r. ⌜ Finished (graphOf (now (input .entry))) (now (kinds .exit)) (now (words .exit)) (now (actions .exit)) (now (details .exit)) r ⌝ }
 {
     state::clear(kinds, words, actions, details);
     let mut marks = [false; limit::NODES];
@@ -97,9 +89,10 @@ pub fn run(
         let at = queue.head;
         let n = queue::front(&queue.places, at);
         queue = queue.rest();
+        marks[n] = false;
         let head = queue.head;
         let count = queue.count;
-        let Joined::Waiting(waiting) = turn(
+        let waiting = turn(
             input,
             counts,
             table,
@@ -118,11 +111,9 @@ pub fn run(
             head,
             count,
             n,
-        ) else {
-            return Worked::NoPlace;
-        };
+        );
         queue = queue.longer(waiting);
         pops += 1;
     }
-    Worked::Pops(pops)
+    pops
 }

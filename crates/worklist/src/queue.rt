@@ -2,12 +2,13 @@
 use ir::limit;
 ghost use mathlib.Core.Path.{_≡_};
 ghost use mathlib.Core.Bool.{false};
+ghost use mathlib.Core.List.{[]};
 ghost use Prim.Native.Nat.{_+_, _-_, _%_, _≤_, _<_};
-ghost use lib.ListN.{getD, replicate};
+ghost use lib.ListN.{getD, set, replicate};
 ghost use Rattle.ir.specs.Limits.{maxNodes};
 ghost use Rattle.model.specs.Maps.{upTo};
 ghost use Rattle.model.specs.Worklist.{queuePlaces};
-ghost use Rattle.worklist.specs.Queue.{Pushed, Queued, Filled};
+ghost use Rattle.worklist.specs.Queue.{Queued};
 
 pub const QUEUE_PLACES: usize = 1024;
 
@@ -62,23 +63,19 @@ pub fn front(places: &[u16; QUEUE_PLACES], head: usize) -> usize
     wide(places[head])
 }
 
-// Stores a node behind the last of `count`, and says whether there was a place for it.
-pub fn push(places: &mut [u16; QUEUE_PLACES], head: usize, count: usize, n: usize) -> bool
-    requires { ⌜ (head < queuePlaces) × (n < maxNodes) ⌝ }
-    ensures { λ r. ⌜ Pushed (now (places .entry)) head count n (now (places .exit)) r ⌝ }
+// Stores a node behind the last of `count`: there is a place for it.
+pub fn push(places: &mut [u16; QUEUE_PLACES], head: usize, count: usize, n: usize)
+    requires { ⌜ (head < queuePlaces) × (count < queuePlaces) × (n < maxNodes) ⌝ }
+    ensures { λ _. ⌜ now (places .exit) ≡ set (now (places .entry)) ((head + count) % queuePlaces) n ⌝ }
 {
-    if count < QUEUE_PLACES {
-        let at = (head + count) % QUEUE_PLACES;
-        places[at] = n as u16;
-        return true;
-    }
-    false
+    let at = (head + count) % QUEUE_PLACES;
+    places[at] = n as u16;
 }
 
-// The nodes below `nodes` are marked, each at the place of its number.
+// The nodes below `nodes` join a queue of none, each at the place of its number.
 fn fill(marks: &mut [bool; limit::NODES], places: &mut [u16; QUEUE_PLACES], nodes: usize)
-    requires { ⌜ nodes ≤ maxNodes ⌝ }
-    ensures { λ _. ⌜ Filled nodes (now (marks .entry)) (now (places .entry)) (now (marks .exit)) (now (places .exit)) ⌝ }
+    requires { ⌜ (nodes ≤ maxNodes) × Queued (now marks) (now places) 0 0 [] ⌝ }
+    ensures { λ _. ⌜ Queued (now (marks .exit)) (now (places .exit)) 0 nodes (upTo nodes) ⌝ }
 {
     let mut n: usize = 0;
     while n < nodes {

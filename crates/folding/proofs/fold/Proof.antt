@@ -1,6 +1,6 @@
 -- `folding::fold` meets its contract.
 use borrow.Author.Needs.{needs}
-use Rattle.folding.proofs.Kept.{fits-kept, refusals-kept, offset-kept, order-kept, answer-kept, pops-kept, finite-kept, clean-kept, never-full-kept}
+use Rattle.folding.proofs.Kept.{fits-kept, refusals-kept, offset-kept, order-kept, answer-kept, pops-kept, finite-kept, clean-kept, waiting-kept}
 use Rattle.folding.proofs.fold.Statement.{statement}
 use Rattle.folding.proofs.fold.Tie as tie
 
@@ -13,7 +13,7 @@ same-length c = search needs
 returns : tie.Need-returns
 returns c =
     let A = c .before .before .fold-input .ensures in
-    (A .result, (A .buffer, (fits-kept A, (refusals-kept A, (offset-kept A, (order-kept A, (answer-kept A, (pops-kept A, (finite-kept A, (clean-kept A, never-full-kept A))))))))))
+    (A .result, (A .buffer, (fits-kept A, (refusals-kept A, (offset-kept A, (order-kept A, (answer-kept A, (pops-kept A, (finite-kept A, (clean-kept A, waiting-kept _))))))))))
 
 pub fold-spec : {M : Type 1} → statement M
 fold-spec = tie.close (tie.spec fold-input-requires same-length returns)

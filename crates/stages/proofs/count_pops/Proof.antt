@@ -1,11 +1,6 @@
 -- `stages::count_pops` meets its contract.
-use mathlib.Core.Path.{subst}
 use borrow.Author.Needs.{needs}
-use denote.Ref.{now}
-use Rattle.graph.specs.Decode.{graphOf}
-use Rattle.worklist.specs.Turns.{Ran}
-use Rattle.worklist.specs.declared.Worked.{Worked}
-use Rattle.folding.proofs.Stages.{reads-at, never-full-at}
+use Rattle.folding.proofs.Stages.{reads-at}
 use Rattle.stages.proofs.count_pops.Statement.{statement}
 use Rattle.stages.proofs.count_pops.Tie as tie
 
@@ -18,17 +13,8 @@ index-rows-requires c κs = search needs
 run-requires : tie.Need-run-requires
 run-requires c κs = (reads-at (c .before .before .before .before .before .before .before .before .before .before .pre) (c .before .before .before .before .before .before .before .rows .ensures) (c .before .before .before .before .before .index-rows .ensures), c .before .before .before .before .before .before .before .before .before .before .pre .consumers)
 
-enum-known-pops : tie.Need-enum-known-pops
-enum-known-pops c = search needs
-
-enum-told : tie.Need-enum-told
-enum-told c = search needs
-
 returns : tie.Need-returns
-returns c = never-full-at (c .before .before .before .before .before .before .before .before .before .before .before .before .before .pre) (subst (λ (w : Worked). Ran (graphOf (now (c .before .before .before .before .before .before .before .before .before .before .before .before .before .args .input))) (c .before .before .run .last .1 .1 .1 .1 .1 .1 .1 .1 .1 .0) (c .before .before .run .last .1 .1 .1 .1 .1 .1 .1 .1 .1 .1 .0) (c .before .before .run .last .1 .1 .1 .1 .1 .1 .1 .1 .1 .1 .1 .0) (c .before .before .run .last .1 .1 .1 .1 .1 .1 .1 .1 .1 .1 .1 .1 .0) w) (c .enum-told .given .1) (c .before .before .run .ensures))
-
-returns-2 : tie.Need-returns-2
-returns-2 c = subst (λ (w : Worked). Ran (graphOf (now (c .before .before .before .before .before .before .before .before .before .before .before .before .before .before .args .input))) (c .before .before .before .run .last .1 .1 .1 .1 .1 .1 .1 .1 .1 .0) (c .before .before .before .run .last .1 .1 .1 .1 .1 .1 .1 .1 .1 .1 .0) (c .before .before .before .run .last .1 .1 .1 .1 .1 .1 .1 .1 .1 .1 .1 .0) (c .before .before .before .run .last .1 .1 .1 .1 .1 .1 .1 .1 .1 .1 .1 .1 .0) w) (c .before .pops .given .1) (c .before .before .before .run .ensures) .pops-are
+returns c = c .run .ensures .pops-are
 
 pub count-pops-spec : {M : Type 1} → statement M
-count-pops-spec = tie.close (tie.spec rows-requires index-rows-requires run-requires enum-known-pops enum-told returns returns-2)
+count-pops-spec = tie.close (tie.spec rows-requires index-rows-requires run-requires returns)

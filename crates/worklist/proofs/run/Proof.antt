@@ -6,7 +6,7 @@ use lib.ListN.{length}
 use borrow.Author.Needs.{needs}
 use Rattle.graph.specs.Decode.{graphOf}
 use Rattle.model.specs.Inputs.{size}
-use Rattle.worklist.proofs.Running.{At, nodes-few, at-start, rest-head, at-most, at-end, at-less, at-node, at-next, at-none}
+use Rattle.worklist.proofs.Running.{At, nodes-few, at-start, at-most, at-end, at-less, at-node, at-unknown, at-rest, at-next}
 use Rattle.worklist.proofs.run.Statement.{statement}
 use Rattle.worklist.proofs.run.Tie as tie
 
@@ -33,54 +33,49 @@ front-requires c κs = c .before .before .before .loop .inv .queued .head-in
 rest-requires : tie.Need-rest-requires Inv-loop μ-loop
 rest-requires c κs = (c .before .before .before .before .loop .inv .queued .head-in, c .before .before .before .loop-test .taken)
 
+array-write-marks : tie.Need-array-write-marks Inv-loop μ-loop
+array-write-marks c =
+    let f = c .before in
+    let l = f .before .before .before in
+    let b = l .before .before .before .before .before .before .before .before .before .before .before .pre .0 .bounded in
+    omega (arith, at-node (l .before .loop .inv) b (l .loop-test .taken) (f .front .ensures), b .few-nodes)
+
 turn-requires : tie.Need-turn-requires Inv-loop μ-loop
 turn-requires c κs =
     let r = c .before .before .before .before .before .before in
     let f = r .before in
     let l = f .before .before .before in
     let p = l .before .before .before .before .before .before .before .before .before .before .before .pre in
-    (p .0, p .1, at-node (l .before .loop .inv) (p .0 .bounded) (l .loop-test .taken) (f .front .ensures), rest-head (l .before .loop .queue) (r .rest .ensures))
-
-enum-known-waiting : tie.Need-enum-known-waiting Inv-loop μ-loop
-enum-known-waiting c = search needs
-
-enum-told : tie.Need-enum-told Inv-loop μ-loop
-enum-told c = search needs
-
-returns : tie.Need-returns Inv-loop μ-loop
-returns c =
-    let t = c .before .before in
-    let r = t .before .before .before .before .before .before .before in
-    let f = r .before in
-    let l = f .before .before .before in
-    let b = l .before .before .before .before .before .before .before .before .before .before .before .pre .0 .bounded in
-    at-none (l .before .loop .inv) b (l .loop-test .taken) (f .front .ensures) (r .rest .ensures) (t .turn .ensures) (c .enum-told .given .1)
+    let i = l .before .loop .inv in
+    let w = l .loop-test .taken in
+    let e = f .front .ensures in
+    (p .0, p .1, at-node i (p .0 .bounded) w e, at-unknown i (p .0 .bounded) w e, at-rest i (p .0 .bounded) w e (r .rest .ensures))
 
 longer-requires : tie.Need-longer-requires Inv-loop μ-loop
 longer-requires c κs = search needs
 
 add-pops : tie.Need-add-pops Inv-loop μ-loop
 add-pops c =
-    let l = c .before .before .before .before .before .before .before .before .before .before .before .before .before .before .before .before in
+    let l = c .before .before .before .before .before .before .before .before .before .before .before .before .before in
     let b = l .before .before .before .before .before .before .before .before .before .before .pre .0 .bounded in
     record { fits = omega (arith, at-most (l .loop .inv) b, b .few-nodes, b .few-wires) }
 
 loop-less : tie.Need-loop-less Inv-loop μ-loop
 loop-less c =
-    let l = c .before .before .before .before .before .before .before .before .before .before .before .before .before .before .before in
+    let l = c .before .before .before .before .before .before .before .before .before .before .before .before in
     omega (arith, at-less (l .before .loop .inv) (l .before .before .before .before .before .before .before .before .before .before .before .pre .0 .bounded) (l .loop-test .taken))
 
 loop-again : tie.Need-loop-again Inv-loop μ-loop
 loop-again c =
-    let t = c .before .before .before .before in
+    let t = c .before in
     let r = t .before .before .before .before .before .before .before in
     let f = r .before in
     let l = f .before .before .before in
     let b = l .before .before .before .before .before .before .before .before .before .before .before .pre .0 .bounded in
-    at-next (l .before .loop .inv) b (l .loop-test .taken) (f .front .ensures) (r .rest .ensures) (t .turn .ensures) (c .before .before .waiting .given .1) (c .longer .ensures)
+    at-next (l .before .loop .inv) b (l .loop-test .taken) (f .front .ensures) (r .rest .ensures) (t .turn .ensures) (c .longer .ensures)
 
-returns-2 : tie.Need-returns-2 Inv-loop μ-loop
-returns-2 c = at-end (c .before .loop .inv) (c .before .before .before .before .before .before .before .before .before .before .before .pre .0 .bounded) (omega (arith, c .loop-test .left))
+returns : tie.Need-returns Inv-loop μ-loop
+returns c = at-end (c .before .loop .inv) (c .before .before .before .before .before .before .before .before .before .before .before .pre .0 .bounded) (omega (arith, c .loop-test .left))
 
 pub run-spec : {M : Type 1} → statement M
 run-spec =
@@ -93,12 +88,10 @@ run-spec =
     loop-holds
     front-requires
     rest-requires
+    array-write-marks
     turn-requires
-    enum-known-waiting
-    enum-told
-    returns
     longer-requires
     add-pops
     loop-less
     loop-again
-    returns-2)
+    returns)

@@ -1,13 +1,13 @@
 -- `worklist::consumers::join` meets its contract. The measure counts down from the most wires that a chain has.
 use native.Mathlib.Omega.{arith}
 use borrow.Author.Needs.{needs}
-use Rattle.worklist.proofs.Joining.{Walking, walk-starts, walk-ends, walk-wire, walk-target, walk-left, walk-next, walk-on, walk-none}
+use Rattle.worklist.proofs.Joining.{Walking, walk-starts, walk-ends, walk-wire, walk-target, walk-left, walk-next, walk-on}
 use Rattle.worklist.proofs.consumers.join.Statement.{statement}
 use Rattle.worklist.proofs.consumers.join.Tie as tie
 
 abbrev Inv-loop : tie.InvT-loop
 Inv-loop wires first next kinds marks₀ places₀ head count n total₀ code₀ left₀ marks places total code left =
-    Walking wires first next kinds n head marks₀ places₀ count marks places total code left
+    Walking wires first next kinds n head places₀ count marks places total code left
 
 abbrev μ-loop : tie.MeasureT-loop
 μ-loop wires first next kinds marks₀ places₀ head count n total₀ code₀ left₀ marks places total code left =
@@ -23,7 +23,7 @@ wide-requires : tie.Need-wide-requires Inv-loop μ-loop
 wide-requires c κs = search needs
 
 loop-holds : tie.Need-loop-holds Inv-loop μ-loop
-loop-holds c = walk-starts (c .before .before .before .pre .0) (c .wide .ensures .0)
+loop-holds c = let p = c .before .before .before .pre in walk-starts (p .0) (p .2) (c .wide .ensures .0)
 
 sub-wire : tie.Need-sub-wire Inv-loop μ-loop
 sub-wire c = omega (arith, c .loop-test .taken)
@@ -35,32 +35,19 @@ join-one-requires : tie.Need-join-one-requires Inv-loop μ-loop
 join-one-requires c κs =
     let w = c .before .before in
     let l = w .before in
-    (walk-target (l .before .loop .inv) (l .loop-test .taken) (w .wire .ensures), search needs)
-
-enum-known-waiting : tie.Need-enum-known-waiting Inv-loop μ-loop
-enum-known-waiting c = search needs
-
-enum-told : tie.Need-enum-told Inv-loop μ-loop
-enum-told c = search needs
-
-returns : tie.Need-returns Inv-loop μ-loop
-returns c =
-    let j = c .before .before in
-    let w = j .before .before .before in
-    let l = w .before in
-    walk-none (l .before .loop .inv) (l .loop-test .taken) (w .wire .ensures) (j .join-one .ensures) (c .enum-told .given .1)
+    (walk-target (l .before .loop .inv) (l .loop-test .taken) (w .wire .ensures), l .before .loop .inv .queued)
 
 sub-wide : tie.Need-sub-wide Inv-loop μ-loop
-sub-wide c = omega (arith, c .before .before .before .before .before .before .before .loop-test .taken)
+sub-wide c = omega (arith, c .before .before .before .before .loop-test .taken)
 
 mul-wide-2 : tie.Need-mul-wide-2 Inv-loop μ-loop
 mul-wide-2 c =
-    let l = c .before .before .before .before .before .before .before in
+    let l = c .before .before .before .before in
     record { fits = omega (arith, walk-next (l .before .loop .inv) (l .loop-test .taken)) }
 
 element-copy-out-wide-2 : tie.Need-element-copy-out-wide-2 Inv-loop μ-loop
 element-copy-out-wide-2 c =
-    let l = c .before .before .before .before .before .before .before in
+    let l = c .before .before .before .before in
     walk-next (l .before .loop .inv) (l .loop-test .taken)
 
 wide-requires-2 : tie.Need-wide-requires-2 Inv-loop μ-loop
@@ -68,23 +55,23 @@ wide-requires-2 c κs = search needs
 
 sub-left : tie.Need-sub-left Inv-loop μ-loop
 sub-left c =
-    let l = c .before .before .before .before .before .before .before .before .before in
+    let l = c .before .before .before .before .before .before in
     walk-left (l .before .loop .inv) (l .loop-test .taken)
 
 loop-less : tie.Need-loop-less Inv-loop μ-loop
 loop-less c =
-    let l = c .before .before .before .before .before .before .before .before .before in
+    let l = c .before .before .before .before .before .before in
     omega (arith, walk-left (l .before .loop .inv) (l .loop-test .taken))
 
 loop-again : tie.Need-loop-again Inv-loop μ-loop
 loop-again c =
-    let j = c .before .before .before .before .before in
+    let j = c .before .before in
     let w = j .before .before .before in
     let l = w .before in
-    walk-on (l .before .loop .inv) (l .loop-test .taken) (w .wire .ensures) (j .join-one .ensures) (c .before .before .before .waiting .given .1) (c .wide2 .ensures .0)
+    walk-on (l .before .loop .inv) (l .loop-test .taken) (w .wire .ensures) (j .join-one .ensures) (c .wide2 .ensures .0)
 
-returns-2 : tie.Need-returns-2 Inv-loop μ-loop
-returns-2 c = walk-ends (c .before .loop .inv) (c .loop-test .left)
+returns : tie.Need-returns Inv-loop μ-loop
+returns c = walk-ends (c .before .loop .inv) (c .loop-test .left)
 
 pub join-spec : {M : Type 1} → statement M
 join-spec =
@@ -99,9 +86,6 @@ join-spec =
     sub-wire
     wire-requires
     join-one-requires
-    enum-known-waiting
-    enum-told
-    returns
     sub-wide
     mul-wide-2
     element-copy-out-wide-2
@@ -109,4 +93,4 @@ join-spec =
     sub-left
     loop-less
     loop-again
-    returns-2)
+    returns)

@@ -2,19 +2,21 @@
 use mathlib.Core.Path.{_≡_}
 use Prim.Native.Nat.{_-_, _≤_}
 use borrow.Author.Needs.{needs}
-use Rattle.worklist.specs.Queue.{Filled}
-use Rattle.worklist.proofs.Queues.{fill-starts, fill-on}
+use Rattle.model.specs.Maps.{upTo}
+use Rattle.worklist.specs.Queue.{Queued}
+use Rattle.worklist.proofs.Queues.{fill-on}
 use Rattle.worklist.proofs.queue.fill.Statement.{statement}
 use Rattle.worklist.proofs.queue.fill.Tie as tie
 
 abbrev Inv-loop : tie.InvT-loop
-Inv-loop marks₀ places₀ nodes n₀ marks places n = (n ≤ nodes) × Filled n marks₀ places₀ marks places
+Inv-loop marks₀ places₀ nodes n₀ marks places n = (n ≤ nodes) × Queued marks places 0 n (upTo n)
 
 abbrev μ-loop : tie.MeasureT-loop
 μ-loop marks₀ places₀ nodes n₀ marks places n = nodes - n
 
 loop-holds : tie.Need-loop-holds Inv-loop μ-loop
-loop-holds c = (search needs, fill-starts)
+unfolding upTo
+loop-holds c = (search needs, c .pre .1)
 
 element-write-marks : tie.Need-element-write-marks Inv-loop μ-loop
 element-write-marks c = search needs

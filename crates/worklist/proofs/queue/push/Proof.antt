@@ -1,6 +1,5 @@
 -- `worklist::queue::push` meets its contract.
 use mathlib.Core.Path.{refl}
-use mathlib.Core.Bool.{true≢false, false≢true}
 use borrow.Author.Needs.{needs}
 use Rattle.worklist.proofs.queue.push.Statement.{statement}
 use Rattle.worklist.proofs.queue.push.Tie as tie
@@ -18,11 +17,7 @@ element-write-places : tie.Need-element-write-places
 element-write-places c = search needs
 
 returns : tie.Need-returns
-returns c = record { place = λ e. (search needs, refl); full = λ e. absurd (true≢false e) }
-
-returns-2 : tie.Need-returns-2
-returns-2 c = record { place = λ e. absurd (false≢true e); full = λ e. (search needs, refl) }
+returns c = refl
 
 pub push-spec : {M : Type 1} → statement M
-push-spec =
-    tie.close (tie.spec add-at cast-places mul-places element-write-places returns returns-2)
+push-spec = tie.close (tie.spec add-at cast-places mul-places element-write-places returns)
