@@ -1,7 +1,7 @@
 // The gates Add, Subtract, Multiply, Divide and Modulo: on whole numbers, on floats and, part by part, on Vectors.
 ghost use mathlib.Core.Path.{_≡_};
 ghost use Rattle.conversions.specs.Conversions.{scalarOf};
-ghost use Rattle.arithmetic.specs.Arithmetic.{wholeOp, floatOp, mixedSigns, refusedOp, floatMath, floatsMath, asReal, numbersMath, spreadScalar, isVector, spread, finiteVector, vectorMath, mathOf};
+ghost use Rattle.arithmetic.specs.Arithmetic.{wholeOp, floatOp, mixedSigns, floatMath, floatsMath, asReal, numbersMath, spreadScalar, isVector, spread, finiteVector, vectorMath, mathOf};
 use conversions::MathIn;
 use value::Operand;
 use value::OptionValue;
@@ -45,7 +45,7 @@ fn component_op(op: MathOp, x: f64, y: f64) -> f64
         MathOp::Subtract => x - y,
         MathOp::Multiply => x * y,
         MathOp::Divide => x / y,
-        MathOp::Modulo => x % y,
+        MathOp::Modulo => ieee::remainder(x, y),
     }
 }
 
@@ -57,26 +57,24 @@ fn mixed_signs(x: f64, y: f64, remainder: f64) -> bool
     ((x < 0.0) != (y < 0.0)) & (remainder != 0.0) & ieee::is_finite(remainder)
 }
 
-fn refused_op(op: MathOp, x: f64, y: f64, result: f64) -> bool
-    ensures { λ r. ⌜ r ≡ refusedOp op x y result ⌝ }
+// Modulo: the truncated remainder, None by the sign rule.
+fn modulo(x: f64, y: f64) -> OptionValue
+    ensures { λ r. ⌜ r ≡ floatMath MathOp.Modulo x y ⌝ }
 {
-    match op {
-        MathOp::Add => false,
-        MathOp::Subtract => false,
-        MathOp::Multiply => false,
-        MathOp::Divide => false,
-        MathOp::Modulo => mixed_signs(x, y, result),
+    let remainder = ieee::remainder(x, y);
+    if mixed_signs(x, y, remainder) {
+        OptionValue::None
+    } else {
+        OptionValue::Some(Value::Float(remainder))
     }
 }
 
 fn float_math(op: MathOp, x: f64, y: f64) -> OptionValue
     ensures { λ r. ⌜ r ≡ floatMath op x y ⌝ }
 {
-    let result = component_op(op, x, y);
-    if refused_op(op, x, y, result) {
-        OptionValue::None
-    } else {
-        OptionValue::Some(Value::Float(result))
+    match op {
+        MathOp::Modulo => modulo(x, y),
+        _ => OptionValue::Some(Value::Float(component_op(op, x, y))),
     }
 }
 

@@ -1,4 +1,4 @@
--- The outcome of an accepted input, by what the arrays hold after the worklist and by what the rewriting finds.
+-- What a fold of a graph gives, by what the arrays hold after the worklist and by what the rewriting finds. `own` says what nodes are by themselves.
 use mathlib.Core.Path.{_≡_, refl, ap, ap₂, _∙_, fun-ext}
 use mathlib.Core.Option.{Option, none, some}
 use mathlib.Core.List.{List, _++_}
@@ -12,16 +12,13 @@ use Rattle.ir.specs.declared.Wire.{Wire}
 use Rattle.value.specs.declared.Value.{Value}
 use Rattle.encoding.specs.Wires.{wireBytes}
 use Rattle.graph.specs.Graph.{Graph}
-use Rattle.graph.specs.Decode.{accepted, decode}
 use Rattle.model.specs.Maps.{Map, upTo}
 use Rattle.model.specs.Inputs.{size}
 use Rattle.model.specs.Offer.{PlanAction}
+use Rattle.model.specs.Worklist.{worklist}
 use Rattle.model.specs.Rewrite.{rewriteWires}
 use Rattle.model.specs.Answer.{each, knownBytes, fateBytes, answer}
-use Rattle.model.specs.Outcome.{endlessIndex, wireOffset, ending, counted, wires, Result, folds, refuses, measured, answered, outcome}
-use Rattle.model.specs.Demands as Demands
-use Rattle.model.specs.Demands.{foldOf}
-use Rattle.model.proofs.Refusals.{at-graph}
+use Rattle.model.specs.Outcome.{endlessIndex, wireOffset, ending, counted, wires, Result, folds, refuses, measured, rewritten, answered, foldGraph}
 use Rattle.state.specs.Planned.{shapeAt, shapeOf, literalOf, valued, planOf, Holds}
 use Rattle.answer.specs.Nodes.{knownRecords, literalFate, fateBy, fateRecords}
 use Rattle.emit.proofs.Fanning.{wires-size}
@@ -56,17 +53,17 @@ bytes-size n kinds words actions ws =
 
 -- ---- the outcome
 
-module _ (input : List ℕ) (room : ℕ) (g : Graph) (read : decode input ≡ accepted g) (kinds words actions details : List ℕ) (h : Holds g kinds words actions details (foldOf g .state)) where
+module _ (own : Map Value) (room : ℕ) (g : Graph) (kinds words actions details : List ℕ) (h : Holds g kinds words actions details (worklist own g .state)) where
   abbrev shape : Map PlanAction
   shape = shapeOf (g .wires) actions details
 
-  plan-same : (n : ℕ) (ws : List Wire) → rewriteWires (foldOf g .state .plan) n ws ≡ rewriteWires shape n ws
-  plan-same n ws = ap (λ (p : Map PlanAction). rewriteWires p n ws) (h .plan) ∙ wires-same _ _ (shape-alike (g .wires) (foldOf g .state .known) actions details (h .literal)) n ws
+  plan-same : (n : ℕ) (ws : List Wire) → rewriteWires (worklist own g .state .plan) n ws ≡ rewriteWires shape n ws
+  plan-same n ws = ap (λ (p : Map PlanAction). rewriteWires p n ws) (h .plan) ∙ wires-same _ _ (shape-alike (g .wires) (worklist own g .state .known) actions details (h .literal)) n ws
 
-  index-of : (n : ℕ) (ws : List Wire) → endlessIndex (foldOf g .state .plan) n ws ≡ endlessIndex shape n ws
-  index-of n ws = ap (λ (p : Map PlanAction). endlessIndex p n ws) (h .plan) ∙ index-same _ _ (shape-alike (g .wires) (foldOf g .state .known) actions details (h .literal)) n ws
+  index-of : (n : ℕ) (ws : List Wire) → endlessIndex (worklist own g .state .plan) n ws ≡ endlessIndex shape n ws
+  index-of n ws = ap (λ (p : Map PlanAction). endlessIndex p n ws) (h .plan) ∙ index-same _ _ (shape-alike (g .wires) (worklist own g .state .known) actions details (h .literal)) n ws
 
-  answer-same : (ws : List Wire) → answer (size g) (foldOf g .state) ws ≡ bytesIn (size g) kinds words actions ws
+  answer-same : (ws : List Wire) → answer (size g) (worklist own g .state) ws ≡ bytesIn (size g) kinds words actions ws
   unfolding answer
   answer-same ws =
       ap₂
@@ -75,32 +72,33 @@ module _ (input : List ℕ) (room : ℕ) (g : Graph) (read : decode input ≡ ac
       (fun-ext
       (λ i.
       ap (λ (p : Map PlanAction). fateBytes i (p i)) (h .plan)
-      ∙ fate-same (g .wires) (foldOf g .state .known) actions details i (h .shaped .listed i)
+      ∙ fate-same (g .wires) (worklist own g .state .known) actions details i (h .shaped .listed i)
       ∙ ap (λ (m : Map Value). fateBy i (getD actions i 0) (m i)) (h .known)))
 
   abbrev rest : Option (List Wire) → Result
-  rest o = answered g (foldOf g) room (ending g (Demands.planOf g) o)
+  rest o = answered g (worklist own g) room (ending g (worklist own g .state .plan) o)
 
-  at-wires : (o : Option (List Wire)) → rewriteWires shape (size g) (g .wires) ≡ o → outcome input room ≡ rest o
-  at-wires o e = at-graph input room g read ∙ ap rest (plan-same (size g) (g .wires) ∙ e)
+  at-wires : (o : Option (List Wire)) → rewriteWires shape (size g) (g .wires) ≡ o → foldGraph own g room ≡ rest o
+  unfolding foldGraph rewritten
+  at-wires o e = ap rest (plan-same (size g) (g .wires) ∙ e)
 
-  pub outcome-endless : rewriteWires shape (size g) (g .wires) ≡ none → outcome input room ≡ refuses 9 (wireOffset g (endlessIndex shape (size g) (g .wires)))
+  pub fold-endless : rewriteWires shape (size g) (g .wires) ≡ none → foldGraph own g room ≡ refuses 9 (wireOffset g (endlessIndex shape (size g) (g .wires)))
   unfolding ending answered
-  outcome-endless e = at-wires none e ∙ ap (λ (i : ℕ). refuses 9 (wireOffset g i)) (index-of (size g) (g .wires))
+  fold-endless e = at-wires none e ∙ ap (λ (i : ℕ). refuses 9 (wireOffset g i)) (index-of (size g) (g .wires))
 
   module _ (ws : List Wire) (e : rewriteWires shape (size g) (g .wires) ≡ some ws) where
-    pub outcome-many : maxWires < length ws → outcome input room ≡ refuses 10 0
+    pub fold-many : maxWires < length ws → foldGraph own g room ≡ refuses 10 0
     unfolding ending answered counted
-    outcome-many l = at-wires (some ws) e ∙ rw (lt-leb (length ws) maxWires l) refl
+    fold-many l = at-wires (some ws) e ∙ rw (lt-leb (length ws) maxWires l) refl
 
-    fits : length ws ≤ maxWires → outcome input room ≡ measured room (answer (size g) (foldOf g .state) ws) (foldOf g .pops)
+    fits : length ws ≤ maxWires → foldGraph own g room ≡ measured room (answer (size g) (worklist own g .state) ws) (worklist own g .pops)
     unfolding ending answered counted
     fits l = at-wires (some ws) e ∙ rw (le-leb (length ws) maxWires l) refl
 
-    pub outcome-long : length ws ≤ maxWires → room < length (bytesIn (size g) kinds words actions ws) → outcome input room ≡ refuses 10 0
+    pub fold-long : length ws ≤ maxWires → room < length (bytesIn (size g) kinds words actions ws) → foldGraph own g room ≡ refuses 10 0
     unfolding measured
-    outcome-long l b = fits l ∙ rw (answer-same ws) (rw (lt-leb _ room b) refl)
+    fold-long l b = fits l ∙ rw (answer-same ws) (rw (lt-leb _ room b) refl)
 
-    pub outcome-folds : length ws ≤ maxWires → length (bytesIn (size g) kinds words actions ws) ≤ room → outcome input room ≡ folds (bytesIn (size g) kinds words actions ws) (foldOf g .pops)
+    pub fold-folds : length ws ≤ maxWires → length (bytesIn (size g) kinds words actions ws) ≤ room → foldGraph own g room ≡ folds (bytesIn (size g) kinds words actions ws) (worklist own g .pops)
     unfolding measured
-    outcome-folds l b = fits l ∙ rw (answer-same ws) (rw (le-leb _ room b) refl)
+    fold-folds l b = fits l ∙ rw (answer-same ws) (rw (le-leb _ room b) refl)

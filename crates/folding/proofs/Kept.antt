@@ -28,7 +28,7 @@ use Rattle.folding.specs.declared.Outcome.{Outcome}
 use Rattle.folding.specs.Entry.{numbers, Answers}
 use Rattle.folding.specs.Demands.{Refusals, EndlessAt, Accepted, OrderFree, AnswerOf, PopsOf, FinitePlan, CleanWires}
 
-module _ {input before after : List ℕ} {r : Outcome} (A : Answers input before after r) where
+module _ {input before after : List ℕ} {r : Outcome} (A : Answers outcome input before after r) where
   abbrev room : ℕ
   room = length before
 

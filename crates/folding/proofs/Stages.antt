@@ -5,29 +5,28 @@ use mathlib.Core.Option.{some}
 use mathlib.Core.List.{List, [], _∷_, _++_}
 use Prim.Native.Nat.{ℕ, suc, _+_, _-_, _*_, _<_, _≤_}
 use native.Mathlib.Omega.{arith}
-use lib.ListN.{length, getD, take, drop, length-append}
-use Rattle.ir.specs.Limits.{maxWires}
+use lib.ListN.{length, getD, take, drop, replicate, length-append}
+use Rattle.ir.specs.Limits.{maxNodes, maxWires}
 use Rattle.ir.specs.declared.Wire.{Wire}
+use Rattle.value.specs.declared.Value.{Value}
 use Rattle.encoding.specs.Numbers.{byte, splice, Written}
 use Rattle.encoding.specs.Wires.{wireBytes}
 use Rattle.encoding.proofs.Splices.{written-length, written-more}
-use Rattle.graph.specs.Graph.{Graph, countsOf}
-use Rattle.graph.specs.Decode.{Verdict, accepted, refused, decode, graphOf}
-use Rattle.graph.specs.Refusals.{counts, refusal, reported}
+use Rattle.graph.specs.Graph.{Graph}
+use Rattle.graph.specs.Decode.{accepted, refused, decode, graphOf}
 use Rattle.graph.specs.declared.Counts.{Counts}
-use Rattle.records.specs.Access.{wiresOf, Accepts, Bounded, wiresOffset, propertiesOffset}
-use Rattle.graph.specs.declared.Row.{Row}
-use Rattle.table.specs.Table.{Cells}
+use Rattle.records.specs.Access.{wiresOf, Accepts, wiresOffset, propertiesOffset}
 use Rattle.records.proofs.Laid.{counted, bounded, wires-part}
-use Rattle.resolve.specs.Reads.{Reads}
 use Rattle.model.specs.Maps.{Map, isSome}
 use Rattle.model.specs.Inputs.{size}
-use Rattle.model.specs.Offer.{PlanAction}
+use Rattle.model.specs.Offer.{PlanAction, literals}
 use Rattle.model.specs.Answer.{each}
 use Rattle.model.specs.Rewrite.{rewriteWire, rewriteWires}
 use Rattle.model.specs.TargetCounts.{cap}
-use Rattle.model.specs.Outcome.{endlessIndex, wireOffset, folds, refuses, numbersOf, written, outcome}
-use Rattle.model.specs.Demands.{foldOf}
+use Rattle.model.specs.Outcome.{endlessIndex, wireOffset, Result, folds, refuses, numbersOf, written, foldGraph, byVerdict, outcome}
+use Rattle.model.specs.Worklist.{worklist}
+use Rattle.model.specs.Own.{setNothing, ownOf}
+use Rattle.model.proofs.Own.{own-zeros}
 use Rattle.model.proofs.Refusals.{at-refusal}
 use Rattle.model.proofs.WireBytes.{section-bytes}
 use Rattle.state.specs.Planned.{shapeOf, Shaped}
@@ -36,39 +35,32 @@ use Rattle.rewrite.specs.Tallied.{Stuck, Counted, keptWires}
 use Rattle.rewrite.proofs.KeptTargets.{wires-kept, kept-few, kept-counted}
 use Rattle.answer.specs.Nodes.{knownRecords, fateRecords}
 use Rattle.emit.specs.Emit.{orNil, Ready}
+use Rattle.propagation.specs.Propagation.{Settled}
+use Rattle.propagation.proofs.Accepted.{accepted-graph, nodes-are, bounded-at}
 use Rattle.folding.specs.declared.Outcome.{Outcome}
-use Rattle.folding.specs.Entry.{Answers, Indexes, Settled, Rewrote, Kept}
-use Rattle.folding.proofs.Answers.{bytesIn, bytes-size, outcome-endless, outcome-many, outcome-long, outcome-folds}
+use Rattle.folding.specs.Entry.{Answers, foldBy, Worked, Folds, Rewrote, Kept}
+use Rattle.folding.proofs.Answers.{bytesIn, bytes-size, fold-endless, fold-many, fold-long, fold-folds}
 
--- an accepted input has its graph
-pub accepted-graph : (s : List ℕ) (c : Counts) → Accepts s c → decode s ≡ accepted (graphOf s)
-unfolding graphOf
-accepted-graph s c a = go (decode s) refl
-  where
-    go : (v : Verdict) → decode s ≡ v → decode s ≡ accepted (graphOf s)
-    go (accepted g) e = rw e refl
-    go (refused n p) e = absurd (let z : counts c ≡ refusal n p = a ∙ ap reported e in let y : _≡_ {A = ℕ} 0 1 = cc in omega arith)
-
--- the counts are those of the graph
-pub nodes-are : (s : List ℕ) (c : Counts) → Accepts s c → c .nodes ≡ size (graphOf s)
-unfolding size
-nodes-are s c a = ap (λ (d : Counts). d .nodes) (counted s c a)
-
-pub refuse : {input before : List ℕ} {n p : ℕ} → outcome input (length before) ≡ refuses n p → Answers input before before (Outcome.Refused n p)
+-- a refusal leaves the buffer
+pub refuse : {fold : List ℕ → ℕ → Result} {input before : List ℕ} {n p : ℕ} → fold input (length before) ≡ refuses n p → Answers fold input before before (Outcome.Refused n p)
 unfolding numbersOf written
 refuse e = record { result = rw e refl; buffer = rw e refl }
 
+at-accepted : (input : List ℕ) (room : ℕ) {g : Graph} → decode input ≡ accepted g → outcome input room ≡ foldGraph (literals g) g room
+unfolding outcome byVerdict
+at-accepted input room e = rw (e, byVerdict)
+
 -- questions 1 to 8
-pub refuse-decode : {input before : List ℕ} {n p : ℕ} → refusal n p ≡ reported (decode input) → Answers input before before (Outcome.Refused n p)
-refuse-decode {input} {before} {n} {p} e = go (decode input) refl
-  where
-    go : (v : Verdict) → decode input ≡ v → Answers input before before (Outcome.Refused n p)
-    go (accepted g) q = absurd (let z : refusal n p ≡ counts (countsOf g) = e ∙ ap reported q in let y : _≡_ {A = ℕ} 0 1 = cc in omega arith)
-    go (refused m r) q =
-        let z : refusal n p ≡ refusal m r = e ∙ ap reported q in
-        let x : n ≡ m = cc in
-        let y : p ≡ r = cc in
-        refuse (at-refusal input (length before) n p (q ∙ ap₂ refused (sym x) (sym y)))
+pub refuse-decode : {input before : List ℕ} {n p : ℕ} → decode input ≡ refused n p → Answers outcome input before before (Outcome.Refused n p)
+refuse-decode {input} {before} {n} {p} e = refuse (at-refusal input (length before) n p e)
+
+-- with nothing set, a fold of the graph is the input's outcome
+pub plain : {input : List ℕ} {c : Counts} {kinds words actions details : List ℕ} {pops : ℕ} {before after : List ℕ} {r : Outcome} → Settled input (ownOf (graphOf input) (replicate maxNodes setNothing)) c kinds words actions details pops → Folds input c kinds words actions details pops before after r → Answers outcome input before after r
+plain {input} {c} {before = before} {after = after} {r = r} S f =
+    let g = graphOf input in
+    let e : foldGraph (ownOf g (replicate maxNodes setNothing)) g (length before) ≡ outcome input (length before) = ap (λ (own : Map Value). foldGraph own g (length before)) (own-zeros g maxNodes) ∙ sym (at-accepted input (length before) (accepted-graph input c (S .accepts))) in
+    let a = f .law _ S in
+    record { result = rw e at (a .result); buffer = rw e at (a .buffer) }
 
 -- the records of the nodes leave the room that there was for more
 pub nodes-room : (kinds words actions : List ℕ) (n more : ℕ) {l m : List ℕ} {b : ℕ} → Written (knownRecords kinds words n ++ fateRecords kinds words actions n) l m 0 b → length (knownRecords kinds words n) + length (fateRecords kinds words actions n) + more ≤ length l → b + more ≤ length m
@@ -80,34 +72,28 @@ splice-start : (l bs : List ℕ) → splice l 0 bs ≡ bs ++ drop (length bs) l
 unfolding splice
 splice-start l bs = let e : 0 + length bs ≡ length bs = omega arith in ap (λ (k : ℕ). bs ++ drop k l) e
 
-module _ {input : List ℕ} {c : Counts} {kinds words actions details : List ℕ} {pops : ℕ} (W : Settled input c kinds words actions details pops) where
+module _ {own : Map Value} {input : List ℕ} {c : Counts} {kinds words actions details : List ℕ} {pops : ℕ} (W : Settled input own c kinds words actions details pops) where
   abbrev g : Graph
   g = graphOf input
 
-  read : decode input ≡ accepted g
-  read = accepted-graph input c (W .accepts)
-
   -- question 9
-  pub refuse-endless : {before : List ℕ} {index place : ℕ} → Stuck (shapeOf (g .wires) actions details) (size g) (g .wires) index → place ≡ 3 * c .nodes + 7 * index → Answers input before before (Outcome.Refused 9 place)
+  pub refuse-endless : {before : List ℕ} {index place : ℕ} → Stuck (shapeOf (g .wires) actions details) (size g) (g .wires) index → place ≡ 3 * c .nodes + 7 * index → Answers (foldBy own) input before before (Outcome.Refused 9 place)
   refuse-endless {before} {index} {place} S e =
       let z : place ≡ wireOffset g (endlessIndex (shapeOf (g .wires) actions details) (size g) (g .wires)) = e ∙ ap₂ (λ (d : Counts) (i : ℕ). 3 * d .nodes + 7 * i) (counted input c (W .accepts)) (S .first) in
-      refuse (outcome-endless input (length before) g read kinds words actions details (W .holds) (S .endless) ∙ ap (refuses 9) (sym z))
+      refuse (fold-endless own (length before) g kinds words actions details (W .finished .holds) (S .endless) ∙ ap (refuses 9) (sym z))
 
-module _ {input : List ℕ} {c : Counts} {kinds words actions details : List ℕ} {count pops : ℕ} (W : Settled input c kinds words actions details pops) (C : Counted (shapeOf (graphOf input .wires) actions details) (size (graphOf input)) (graphOf input .wires) count) where
+module _ {own : Map Value} {input : List ℕ} {c : Counts} {kinds words actions details : List ℕ} {count pops : ℕ} (W : Settled input own c kinds words actions details pops) (C : Counted (shapeOf (graphOf input .wires) actions details) (size (graphOf input)) (graphOf input .wires) count) where
   abbrev h : Graph
   h = graphOf input
 
   abbrev ws : List Wire
   ws = C .rewritten
 
-  is-read : decode input ≡ accepted h
-  is-read = accepted-graph input c (W .accepts)
-
   -- question 10: too many wires
-  pub refuse-many : {before : List ℕ} → maxWires < count → Answers input before before (Outcome.Refused 10 0)
+  pub refuse-many : {before : List ℕ} → maxWires < count → Answers (foldBy own) input before before (Outcome.Refused 10 0)
   unfolding cap
   refuse-many {before} l =
-      refuse (outcome-many input (length before) h is-read kinds words actions details (W .holds) ws (C .ends) (omega (arith, C .many)))
+      refuse (fold-many own (length before) h kinds words actions details (W .finished .holds) ws (C .ends) (omega (arith, C .many)))
 
   module _ (l : count ≤ maxWires) where
     pub exact : count ≡ length ws
@@ -118,9 +104,9 @@ module _ {input : List ℕ} {c : Counts} {kinds words actions details : List ℕ
     whole = bytes-size (size h) kinds words actions ws ∙ omega (arith, exact)
 
     -- question 10: too long an answer
-    pub refuse-long : {before : List ℕ} {size-of : ℕ} → size-of ≡ length (knownRecords kinds words (size h)) + length (fateRecords kinds words actions (size h)) + 7 * count → length before < size-of → Answers input before before (Outcome.Refused 10 0)
+    pub refuse-long : {before : List ℕ} {size-of : ℕ} → size-of ≡ length (knownRecords kinds words (size h)) + length (fateRecords kinds words actions (size h)) + 7 * count → length before < size-of → Answers (foldBy own) input before before (Outcome.Refused 10 0)
     refuse-long {before} {size-of} e m =
-        refuse (outcome-long input (length before) h is-read kinds words actions details (W .holds) ws (C .ends) (omega (arith, exact)) (omega (arith, whole)))
+        refuse (fold-long own (length before) h kinds words actions details (W .finished .holds) ws (C .ends) (omega (arith, exact)) (omega (arith, whole)))
 
     ws-is : orNil (rewriteWires (shapeOf (h .wires) actions details) (size h) (h .wires)) ≡ ws
     ws-is = ap orNil (C .ends)
@@ -129,7 +115,7 @@ module _ {input : List ℕ} {c : Counts} {kinds words actions details : List ℕ
     ready R =
         record {
           bounded = (unfold size in bounded input);
-          shaped = W .holds .shaped;
+          shaped = W .finished .holds .shaped;
           rewritable = R;
           ends = C .ends ∙ ap some (sym ws-is);
           few = omega (arith, ap length ws-is, exact);
@@ -138,21 +124,21 @@ module _ {input : List ℕ} {c : Counts} {kinds words actions details : List ℕ
     -- the answer
     pub folded : {before two three : List ℕ} {b r : ℕ} → length (knownRecords kinds words (size h)) + length (fateRecords kinds words actions (size h)) + 7 * count ≤ length before
         → Written (knownRecords kinds words (size h) ++ fateRecords kinds words actions (size h)) before two 0 b → Written (each wireBytes (orNil (rewriteWires (shapeOf (h .wires) actions details) (size h) (h .wires)))) two three b r
-        → Answers input before three (Outcome.Folded r pops)
+        → Answers (foldBy own) input before three (Outcome.Folded r pops)
     unfolding numbersOf written
     folded {before} {two} {three} {b} {r} m y z =
         let T : List ℕ = each wireBytes ws in
         let z' : Written T two three b r = rw ws-is at z in
         let w = written-more y (omega (arith, m, whole)) z' in
-        let e : outcome input (length before) ≡ folds (bytesIn (size h) kinds words actions ws) (foldOf h .pops) = outcome-folds input (length before) h is-read kinds words actions details (W .holds) ws (C .ends) (omega (arith, exact)) (omega (arith, m, whole)) in
+        let e : foldGraph own (graphOf input) (length before) ≡ folds (bytesIn (size h) kinds words actions ws) (worklist own h .pops) = fold-folds own (length before) h kinds words actions details (W .finished .holds) ws (C .ends) (omega (arith, exact)) (omega (arith, m, whole)) in
         record {
-          result = rw e (ap₂ (λ (i j : ℕ). record { number = 0; place = 0; length = i; pops = j }) (w .past ∙ omega arith) (W .pops-are));
+          result = rw e (ap₂ (λ (i j : ℕ). record { number = 0; place = 0; length = i; pops = j }) (w .past ∙ omega arith) (W .finished .pops-are));
           buffer = rw e (w .wrote ∙ splice-start before (bytesIn (size h) kinds words actions ws));
         }
 
     -- the same, where the code has the number of nodes and the wires
     module _ (n : ℕ) (vs : List Wire) (e : n ≡ size h) (f : vs ≡ h .wires) where
-      pub long-at : {before : List ℕ} {size-of : ℕ} → size-of ≡ length (knownRecords kinds words n) + length (fateRecords kinds words actions n) + 7 * count → length before < size-of → Answers input before before (Outcome.Refused 10 0)
+      pub long-at : {before : List ℕ} {size-of : ℕ} → size-of ≡ length (knownRecords kinds words n) + length (fateRecords kinds words actions n) + 7 * count → length before < size-of → Answers (foldBy own) input before before (Outcome.Refused 10 0)
       long-at {before} {size-of} q m = refuse-long {before = before} {size-of = size-of} (rw e at q) m
 
       pub ready-at : {sources targets first next : List ℕ} → Rewritable (h .wires) (size h) actions details sources targets first next → Ready vs n actions details sources targets first next
@@ -163,23 +149,23 @@ module _ {input : List ℕ} {c : Counts} {kinds words actions details : List ℕ
 
       pub folded-at : {before two three : List ℕ} {b r : ℕ} → length (knownRecords kinds words n) + length (fateRecords kinds words actions n) + 7 * count ≤ length before
           → Written (knownRecords kinds words n ++ fateRecords kinds words actions n) before two 0 b → Written (each wireBytes (orNil (rewriteWires (shapeOf vs actions details) n vs))) two three b r
-          → Answers input before three (Outcome.Folded r pops)
+          → Answers (foldBy own) input before three (Outcome.Folded r pops)
       folded-at m y z = folded (rw e at m) (rw e at y) (rw (e, f) at z)
 
 -- ---- where neither a Select nor a Branch is planned
 
-module _ {input : List ℕ} {c : Counts} {kinds words actions : List ℕ} {pops size-of : ℕ} (K : Kept input c kinds words actions pops size-of) {vs : List Wire} (f : vs ≡ graphOf input .wires) where
+module _ {own : Map Value} {input : List ℕ} {c : Counts} {kinds words actions details : List ℕ} {pops size-of : ℕ} (W : Settled input own c kinds words actions details pops) (K : Kept input c kinds words actions pops size-of) {vs : List Wire} (f : vs ≡ graphOf input .wires) where
   nodes-of : c .nodes ≡ size (graphOf input)
-  nodes-of = nodes-are input c (K .worked .accepts)
+  nodes-of = nodes-are input c (W .accepts)
 
   pub wires-are : c .wires ≡ length vs
-  wires-are = ap (λ (d : Counts). d .wires) (counted input c (K .worked .accepts)) ∙ sym (ap length f)
+  wires-are = ap (λ (d : Counts). d .wires) (counted input c (W .accepts)) ∙ sym (ap length f)
 
   low-at : (m : ℕ) → m < size (graphOf input) → getD actions m 0 ≤ 1
   low-at m l = K .low m (omega (arith, nodes-of, l))
 
-  shape : Shaped (graphOf input .wires) (size (graphOf input)) actions (K .details)
-  shape = K .worked .holds .shaped
+  shape : Shaped (graphOf input .wires) (size (graphOf input)) actions details
+  shape = W .finished .holds .shaped
 
   few : length (keptWires actions (graphOf input .wires)) ≤ length vs
   few = omega (arith, kept-few actions (graphOf input .wires), ap length f)
@@ -187,18 +173,18 @@ module _ {input : List ℕ} {c : Counts} {kinds words actions : List ℕ} {pops 
   pub few-wires : length vs ≤ maxWires
   few-wires = omega (arith, bounded input .few-wires, ap length f)
 
-  tallied : Counted (shapeOf (graphOf input .wires) actions (K .details)) (size (graphOf input)) (graphOf input .wires) (length (keptWires actions (graphOf input .wires)))
+  tallied : Counted (shapeOf (graphOf input .wires) actions details) (size (graphOf input)) (graphOf input .wires) (length (keptWires actions (graphOf input .wires)))
   tallied =
-      kept-counted (graphOf input .wires) actions (K .details) (size (graphOf input)) shape low-at (graphOf input .wires) (omega (arith, few, few-wires)) _ refl
+      kept-counted (graphOf input .wires) actions details (size (graphOf input)) shape low-at (graphOf input .wires) (omega (arith, few, few-wires)) _ refl
 
-  stay : orNil (rewriteWires (shapeOf vs actions (K .details)) (c .nodes) vs) ≡ keptWires actions vs
-  stay = rw (nodes-of, f) (ap orNil (wires-kept (graphOf input .wires) actions (K .details) (size (graphOf input)) shape low-at (graphOf input .wires)))
+  stay : orNil (rewriteWires (shapeOf vs actions details) (c .nodes) vs) ≡ keptWires actions vs
+  stay = rw (nodes-of, f) (ap orNil (wires-kept (graphOf input .wires) actions details (size (graphOf input)) shape low-at (graphOf input .wires)))
 
   pub kept-folded : {before two three : List ℕ} {b r : ℕ} → length before ≡ size-of
       → Written (knownRecords kinds words (c .nodes) ++ fateRecords kinds words actions (c .nodes)) before two 0 b → Written (each wireBytes (keptWires actions vs)) two three b r
-      → Answers input before three (Outcome.Folded r pops)
+      → Answers (foldBy own) input before three (Outcome.Folded r pops)
   kept-folded {two = two} {three = three} {b = b} {r = r} e y z =
-      folded-at (K .worked) tallied (omega (arith, few, few-wires)) (c .nodes) vs nodes-of f (omega (arith, K .room, few, wires-are, e)) y (subst (λ (us : List Wire). Written (each wireBytes us) two three b r) (sym stay) z)
+      folded-at W tallied (omega (arith, few, few-wires)) (c .nodes) vs nodes-of f (omega (arith, K .room, few, wires-are, e)) y (subst (λ (us : List Wire). Written (each wireBytes us) two three b r) (sym stay) z)
 
 -- ---- what each stage needs of the one before
 
@@ -211,10 +197,6 @@ index-low p n (w ∷ ws) = go (isSome (rewriteWire p n w)) (index-low p n ws)
     go true h = omega arith
     go false h = omega arith
 
-pub bounded-at : (input : List ℕ) (c : Counts) {vs : List Wire} → Accepts input c → vs ≡ graphOf input .wires → Bounded vs (c .nodes)
-unfolding size
-bounded-at input c a f = subst₂ (λ (m : ℕ) (us : List Wire). Bounded us m) (sym (nodes-are input c a)) (sym f) (bounded input)
-
 -- the part of the input where the wire records stand
 pub section-at : (input : List ℕ) (c : Counts) {from to : ℕ} → from ≡ wiresOffset c → to ≡ propertiesOffset c → take (to - from) (drop from input) ≡ take (7 * c .wires) (drop (wiresOffset c) input)
 section-at input c {from} {to} e f = let n : to - from ≡ 7 * c .wires = omega arith in rw (n, e) refl
@@ -226,25 +208,12 @@ module _ (input : List ℕ) (c : Counts) {r : List ℕ} (a : Accepts input c) (e
   pub section-records : ((k : ℕ) → byte input k < 256) → r ≡ each wireBytes (wiresOf r)
   section-records small = e ∙ (section-bytes input c a small ∙ ap (each wireBytes) (sym section-wires))
 
-pub reads-at : {input : List ℕ} {c : Counts} {table wires feedsFirst feedsNext first next : List ℕ} {rs : List Row} {rows : List Bool} → Indexes input c table wires feedsFirst feedsNext first next → rs ≡ graphOf input .rows → Cells rs rows → Reads (graphOf input) c input table wires rows feedsFirst feedsNext
-unfolding size
-reads-at {input} {c} {rows = rows} X e h =
-    record {
-      graph = refl;
-      counts = counted input c (X .accepts);
-      properties = X .properties;
-      wires-part = X .wires-part;
-      row-cells = subst (λ (qs : List Row). Cells qs rows) e h;
-      bounded = bounded input;
-      feeds = X .feeds;
-    }
-
-module _ {input : List ℕ} {c : Counts} {kinds words actions details : List ℕ} {pops : ℕ} (W : Settled input c kinds words actions details pops) {vs : List Wire} (f : vs ≡ graphOf input .wires) where
+module _ {own : Map Value} {input : List ℕ} {c : Counts} {kinds words actions details : List ℕ} {pops : ℕ} (W : Settled input own c kinds words actions details pops) {vs : List Wire} (f : vs ≡ graphOf input .wires) where
   nodes : c .nodes ≡ size (graphOf input)
   nodes = nodes-are input c (W .accepts)
 
   pub shaped-at : Shaped vs (c .nodes) actions details
-  shaped-at = subst₂ (λ (m : ℕ) (us : List Wire). Shaped us m actions details) (sym nodes) (sym f) (W .holds .shaped)
+  shaped-at = subst₂ (λ (m : ℕ) (us : List Wire). Shaped us m actions details) (sym nodes) (sym f) (W .finished .holds .shaped)
 
   pub stuck-at : {index : ℕ} → Stuck (shapeOf vs actions details) (c .nodes) vs index → Stuck (shapeOf (graphOf input .wires) actions details) (size (graphOf input)) (graphOf input .wires) index
   stuck-at {index} S = subst₂ (λ (m : ℕ) (us : List Wire). Stuck (shapeOf us actions details) m us index) nodes f S
@@ -256,7 +225,7 @@ module _ {input : List ℕ} {c : Counts} {kinds words actions details : List ℕ
   pub rewrote-at : {sources targets first next : List ℕ} {count : ℕ} → Counted (shapeOf vs actions details) (c .nodes) vs count → Rewritable vs (c .nodes) actions details sources targets first next → Rewrote input c kinds words actions details sources targets first next count pops
   rewrote-at {sources} {targets} {first} {next} {count} C R =
       record {
-        worked = W;
+        worked = record { own = own; settled = W };
         rewritable = subst₂ (λ (m : ℕ) (us : List Wire). Rewritable us m actions details sources targets first next) nodes f R;
         counted = subst₂ (λ (m : ℕ) (us : List Wire). Counted (shapeOf us actions details) m us count) nodes f C;
       }

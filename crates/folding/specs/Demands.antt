@@ -16,7 +16,7 @@ use Rattle.records.specs.Access.{noWire}
 use Rattle.model.specs.Maps.{All}
 use Rattle.model.specs.Inputs.{size}
 use Rattle.model.specs.Offer.{BecomeLiteral, literals}
-use Rattle.model.specs.Trial.{empty, trials, Settled}
+use Rattle.model.specs.Trial.{empty, trials, Stable}
 use Rattle.model.specs.Rewrite.{rewriteWires}
 use Rattle.model.specs.Answer.{answer}
 use Rattle.model.specs.Outcome.{Numbers}
@@ -40,7 +40,7 @@ Accepted r = r .number ≡ 0
 -- "every list of its nodes, in any order and with any repeats ..: the known values and the plan after the list are, bit for bit, those of our
 -- worklist exactly when no trial of any node would then add a known value or a plan"
 abbrev pub OrderFree : Graph → Type 0
-OrderFree g = (ns : List ℕ) → (trials (literals g) g empty ns ≡ foldOf g .state) ↔ Settled (literals g) g (trials (literals g) g empty ns)
+OrderFree g = (ns : List ℕ) → (trials (literals g) g empty ns ≡ foldOf g .state) ↔ Stable (literals g) g (trials (literals g) g empty ns)
 
 -- "Our answer is, byte for byte, what document 01 writes for that graph and the worklist's known values and plan"
 pub record AnswerOf (g : Graph) (bytes : List ℕ) : Type 0 where

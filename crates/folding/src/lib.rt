@@ -9,7 +9,6 @@ use ir::limit;
 use records::access;
 use rewrite::Rewriting;
 use state::WORDS;
-use table::CELLS;
 ghost use mathlib.Core.Path.{_≡_};
 ghost use mathlib.Core.List.{List};
 ghost use Prim.Native.Nat.{ℕ, _+_, _*_, _≤_};
@@ -25,7 +24,7 @@ ghost use Rattle.model.specs.Worklist.{after, Waiting};
 ghost use Rattle.model.specs.Outcome.{numbersOf, written, outcome};
 ghost use Rattle.state.specs.Held.{isKind};
 ghost use Rattle.answer.specs.Nodes.{knownRecords, fateRecords};
-ghost use Rattle.folding.specs.Entry.{numbers, Answers, Indexes, Settled, Rewrote, Kept};
+ghost use Rattle.folding.specs.Entry.{numbers, Answers, Worked, Folds, Rewrote, Kept};
 ghost use Rattle.folding.specs.Demands.{Refusals, EndlessAt, Accepted, OrderFree, AnswerOf, PopsOf, FinitePlan, CleanWires};
 
 // The answer's length and the pops, or a refusal's number and place.
@@ -74,7 +73,7 @@ fn write_answer(
     out: &mut [u8],
 ) -> Outcome
     requires { ⌜ Rewrote (now input) counts (now kinds) (now words) (now actions) (now details) (now sources) (now targets) (now first) (now next) count pops ⌝ }
-    ensures { λ r. ⌜ Answers (now (input .entry)) (now (out .entry)) (now (out .exit)) r ⌝ }
+    ensures { λ r. ⌜ Folds (now (input .entry)) counts (now (kinds .entry)) (now (words .entry)) (now (actions .entry)) (now (details .entry)) pops (now (out .entry)) (now (out .exit)) r ⌝ }
 {
     if limit::WIRES < count {
         return Outcome::Refused {
@@ -117,8 +116,8 @@ fn rewrite_graph(
     pops: usize,
     out: &mut [u8],
 ) -> Outcome
-    requires { ⌜ Settled (now input) counts (now kinds) (now words) (now actions) (now details) pops ⌝ }
-    ensures { λ r. ⌜ Answers (now (input .entry)) (now (out .entry)) (now (out .exit)) r ⌝ }
+    requires { ⌜ Worked (now input) counts (now kinds) (now words) (now actions) (now details) pops ⌝ }
+    ensures { λ r. ⌜ Folds (now (input .entry)) counts (now (kinds .entry)) (now (words .entry)) (now (actions .entry)) (now (details .entry)) pops (now (out .entry)) (now (out .exit)) r ⌝ }
 {
     let wires = access::wires(input, counts);
     let nodes = counts.nodes;
@@ -172,7 +171,7 @@ fn write_kept(
     out: &mut [u8],
 ) -> Outcome
     requires { ⌜ Kept (now input) counts (now kinds) (now words) (now actions) pops (length (now out)) ⌝ }
-    ensures { λ r. ⌜ Answers (now (input .entry)) (now (out .entry)) (now (out .exit)) r ⌝ }
+    ensures { λ r. ⌜ ((details : List ℕ) → Folds (now (input .entry)) counts (now (kinds .entry)) (now (words .entry)) (now (actions .entry)) details pops (now (out .entry)) (now (out .exit)) r) ⌝ }
 {
     let nodes = counts.nodes;
     let from = access::wires_offset(input, counts);
@@ -184,8 +183,8 @@ fn write_kept(
 }
 
 // Questions 9 and 10, and the answer. Without a planned Select or Branch every wire's rewriting ends, and the wires only get fewer: they are counted
-// only where the buffer may be too short.
-fn answer_graph(
+// only where the buffer may be too short. The arrays hold what a worklist of the input's graph left, whatever its nodes were by themselves.
+pub fn answer_graph(
     input: &[u8],
     counts: Counts,
     kinds: &[u8; limit::NODES],
@@ -195,8 +194,8 @@ fn answer_graph(
     pops: usize,
     out: &mut [u8],
 ) -> Outcome
-    requires { ⌜ Settled (now input) counts (now kinds) (now words) (now actions) (now details) pops ⌝ }
-    ensures { λ r. ⌜ Answers (now (input .entry)) (now (out .entry)) (now (out .exit)) r ⌝ }
+    requires { ⌜ Worked (now input) counts (now kinds) (now words) (now actions) (now details) pops ⌝ }
+    ensures { λ r. ⌜ Folds (now (input .entry)) counts (now (kinds .entry)) (now (words .entry)) (now (actions .entry)) (now (details .entry)) pops (now (out .entry)) (now (out .exit)) r ⌝ }
 {
     if !state::any_above(actions, counts.nodes, state::BECOME_LITERAL) {
         if holds(kinds, actions, counts.nodes, counts.wires, out.len()) {
@@ -206,69 +205,27 @@ fn answer_graph(
     rewrite_graph(input, counts, kinds, words, actions, details, pops, out)
 }
 
-// The worklist, and what follows.
-fn run_worklist(
-    input: &[u8],
-    counts: Counts,
-    table: &[u16; SLOTS],
-    wires: &[u8],
-    feeds_first: &[u16; SLOTS],
-    feeds_next: &[u16; limit::WIRES],
-    first: &[u16; limit::NODES],
-    next: &[u16; limit::WIRES],
-    out: &mut [u8],
-) -> Outcome
-    requires { ⌜ Indexes (now input) counts (now table) (now wires) (now «feeds_first») (now «feeds_next») (now first) (now next) ⌝ }
-    ensures { λ r. ⌜ Answers (now (input .entry)) (now (out .entry)) (now (out .exit)) r ⌝ }
+// The fold of an accepted input, whose properties the table indexes. Nothing is set.
+fn fold_graph(input: &[u8], counts: Counts, table: &[u16; SLOTS], out: &mut [u8]) -> Outcome
+    requires { ⌜ Accepts (now input) counts × Indexed (graphOf (now input) .properties) (now input) (now table) ⌝ }
+    ensures { λ r. ⌜ Answers outcome (now (input .entry)) (now (out .entry)) (now (out .exit)) r ⌝ }
 {
-    let mut rows = [false; CELLS];
-    table::index_rows(access::rows(input, counts), &mut rows);
+    let own = [resolve::SET_NOTHING; limit::NODES];
     let mut kinds = [0u8; limit::NODES];
     let mut words = [0u64; WORDS];
     let mut actions = [0u8; limit::NODES];
     let mut details = [0u16; limit::NODES];
-    let pops = worklist::run(
+    let pops = propagation::propagate_graph(
         input,
         counts,
         table,
-        wires,
-        &rows,
-        feeds_first,
-        feeds_next,
-        first,
-        next,
+        &own,
         &mut kinds,
         &mut words,
         &mut actions,
         &mut details,
     );
     answer_graph(input, counts, &kinds, &words, &actions, &details, pops, out)
-}
-
-// The fold of an accepted input, whose properties the table indexes.
-fn fold_graph(input: &[u8], counts: Counts, table: &[u16; SLOTS], out: &mut [u8]) -> Outcome
-    requires { ⌜ Accepts (now input) counts × Indexed (graphOf (now input) .properties) (now input) (now table) ⌝ }
-    ensures { λ r. ⌜ Answers (now (input .entry)) (now (out .entry)) (now (out .exit)) r ⌝ }
-{
-    let wires = access::wires(input, counts);
-    let nodes = counts.nodes;
-    let mut feeds_first = [0u16; SLOTS];
-    let mut feeds_next = [0u16; limit::WIRES];
-    let mut first = [0u16; limit::NODES];
-    let mut next = [0u16; limit::WIRES];
-    wire_index::link_feeds(wires, nodes, &mut feeds_first, &mut feeds_next);
-    wire_index::link_consumers(wires, nodes, &mut first, &mut next);
-    run_worklist(
-        input,
-        counts,
-        table,
-        wires,
-        &feeds_first,
-        &feeds_next,
-        &first,
-        &next,
-        out,
-    )
 }
 
 // Folds the graph that the input says. The answer is written into `out`; a refusal leaves it as it was.
@@ -289,7 +246,7 @@ pub fn fold(input: &[u8], out: &mut [u8]) -> Outcome
 }
 
 fn fold_input(input: &[u8], out: &mut [u8]) -> Outcome
-    ensures { λ r. ⌜ Answers (now (input .entry)) (now (out .entry)) (now (out .exit)) r ⌝ }
+    ensures { λ r. ⌜ Answers outcome (now (input .entry)) (now (out .entry)) (now (out .exit)) r ⌝ }
 {
     let mut table = [0u16; SLOTS];
     match records::decode(input, &mut table) {

@@ -1,6 +1,8 @@
-// Gate cases as bytes, for runs beside the Rust.
+// Gate cases as bytes, for runs beside the Rust, and the remainder of floats, for one beside the C library's.
 ghost use mathlib.Core.Path.{_≡_};
 ghost use Prim.Native.Nat.{_+_, _≤_};
+ghost use lib.Ieee as Ieee;
+ghost use lib.Ieee.{binary64};
 ghost use lib.ListN.{length};
 ghost use Rattle.gate_cases.specs.Cases.{operandAt, givenOf, zeros, answerBytes};
 use encoding::numbers;
@@ -48,4 +50,12 @@ pub extern "C" fn mezburiko_gate_case(case: &[u8; 100], answer: &mut [u8; 33])
     let b = operand_at(case, 34);
     let c = operand_at(case, 67);
     write_given(answer, semantics::eval_in(class, a, b, c));
+}
+
+// The remainder of two floats.
+#[no_mangle]
+pub extern "C" fn mezburiko_remainder(x: f64, y: f64) -> f64
+    ensures { λ r. ⌜ r ≡ Ieee.rem binary64 x y ⌝ }
+{
+    ieee::remainder(x, y)
 }

@@ -3,3 +3,4 @@ pub mod Finite
 pub mod Integral
 mod Values
 mod Truncation
+mod Units

@@ -1,3 +1,4 @@
 pub mod Bits
 pub mod Finite
 pub mod Integral
+pub mod Parts

@@ -1,12 +1,15 @@
-// IEEE 754 binary64: the bits of a float, rounding to an integer, and finiteness.
+// IEEE 754 binary64: the bits of a float, rounding to an integer, finiteness, and the remainder.
 
 ghost use mathlib.Core.Path.{_≡_};
-ghost use mathlib.Core.Bool.{true};
+ghost use mathlib.Core.Bool.{true, false};
+ghost use Prim.Native.Nat.{_*_, _%_, _^_, _<_};
 ghost use lib.Ieee as Ieee;
-ghost use lib.Ieee.{binary64};
+ghost use lib.Ieee.{binary64, prec, emax, low};
+ghost use lib.Ieee.Exact.{HasValue};
 ghost use Rattle.ieee.specs.Bits.{bitsOf};
 ghost use Rattle.ieee.specs.Finite.{finiteOf, sanitizeOf};
 ghost use Rattle.ieee.specs.Integral.{roundToIntegral, floorOf, ceilOf, roundOf};
+ghost use Rattle.ieee.specs.Parts.{PartsOf};
 
 // Every bit but the sign.
 const MAGNITUDE: u64 = 0x7fff_ffff_ffff_ffff;
@@ -14,6 +17,16 @@ const MAGNITUDE: u64 = 0x7fff_ffff_ffff_ffff;
 const INFINITY: u64 = 0x7ff0_0000_0000_0000;
 // The bits that a NaN is written as.
 const NAN: u64 = 0x7ff8_0000_0000_0000;
+// The weight of the sign.
+const SIGN: u64 = 0x8000_0000_0000_0000;
+// The weight of the exponent's field, which is the leading digit's.
+const LEADING: u64 = 0x0010_0000_0000_0000;
+// 2^51 of the smallest values is the largest power of two without a leading digit.
+const SUBNORMAL: u64 = 51;
+// How many binary digits a u64 has beside a significand's 53.
+const SPARE: u64 = 11;
+// 10 binary digits.
+const DIGITS: u64 = 1024;
 // 2^52. No float of this magnitude or a larger one has a fraction.
 const NO_FRACTION: f64 = 4503599627370496.0;
 
@@ -130,4 +143,124 @@ pub fn sanitize(x: f64) -> f64
     ensures { λ r. ⌜ r ≡ sanitizeOf x ⌝ }
 {
     if is_finite(x) { x } else { 0.0 }
+}
+
+// ---- The remainder
+
+// A finite float: significand * 2^exponent of the smallest values.
+struct Parts {
+    negative: bool,
+    significand: u64,
+    exponent: u64,
+}
+
+fn decompose(x: f64) -> Parts
+    requires { ⌜ finiteOf x ≡ true ⌝ }
+    ensures { λ r. ⌜ PartsOf x (r .negative) (r .significand) (r .exponent) ⌝ }
+{
+    let bits = to_bits(x);
+    let negative = bits >= SIGN;
+    let field = bits % SIGN / LEADING;
+    let digits = bits % LEADING;
+    if field == 0 {
+        Parts {
+            negative,
+            significand: digits,
+            exponent: 0,
+        }
+    } else {
+        Parts {
+            negative,
+            significand: LEADING + digits,
+            exponent: field - 1,
+        }
+    }
+}
+
+// 2^exponent of the smallest values. Past the subnormals it is a leading digit, which the exponent's field says.
+fn power(exponent: u64) -> f64
+    requires { ⌜ exponent < 2 * emax binary64 ⌝ }
+    ensures { λ r. ⌜ HasValue r false (2 ^ exponent) (2 ^ low binary64) ⌝ }
+{
+    if exponent <= SUBNORMAL {
+        from_bits(1 << exponent)
+    } else {
+        from_bits((exponent - SUBNORMAL) * LEADING)
+    }
+}
+
+// significand * 2^exponent of the smallest values.
+fn scaled(significand: u64, exponent: u64) -> f64
+    requires { ⌜ (significand < 2 ^ prec binary64) × (exponent < 2 * emax binary64) ⌝ }
+    ensures { λ r. ⌜ r ≡ Ieee.round binary64 false (significand * 2 ^ exponent) (2 ^ low binary64) ⌝ }
+{
+    significand as f64 * power(exponent)
+}
+
+// x * y % b, by 10 binary digits of y at a time, so that both summands stay below 2^63.
+fn mul_mod(x: u64, y: u64, b: u64) -> u64
+    requires { ⌜ (x < 2 ^ prec binary64) × (0 < b) × (b < 2 ^ prec binary64) ⌝ }
+    ensures { λ r. ⌜ r ≡ x * y % b ⌝ }
+{
+    if y < DIGITS {
+        (x * y) % b
+    } else {
+        (mul_mod(x, y / DIGITS, b) * DIGITS + x * (y % DIGITS)) % b
+    }
+}
+
+// 2^k % b, by squares.
+fn pow_mod(k: u64, b: u64) -> u64
+    requires { ⌜ (0 < b) × (b < 2 ^ prec binary64) ⌝ }
+    ensures { λ r. ⌜ r ≡ 2 ^ k % b ⌝ }
+{
+    if k < 64 {
+        (1 << k) % b
+    } else {
+        let half = pow_mod(k / 2, b);
+        mul_mod(half, half << (k % 2), b)
+    }
+}
+
+// a * 2^k % b.
+fn shl_mod(a: u64, b: u64, k: u64) -> u64
+    requires { ⌜ (a < 2 ^ prec binary64) × (0 < b) × (b < 2 ^ prec binary64) ⌝ }
+    ensures { λ r. ⌜ r ≡ a * 2 ^ k % b ⌝ }
+{
+    if k <= SPARE {
+        (a << k) % b
+    } else {
+        mul_mod(a, pow_mod(k, b), b)
+    }
+}
+
+// Both as whole numbers of the smallest values. Where x has the smaller exponent, y has its leading digit and is the larger in size.
+fn finite_remainder(x: f64, y: f64) -> f64
+    requires { ⌜ (finiteOf x ≡ true) × (finiteOf y ≡ true) ⌝ }
+    ensures { λ r. ⌜ r ≡ Ieee.rem binary64 x y ⌝ }
+{
+    let a = decompose(x);
+    let b = decompose(y);
+    if b.significand == 0 {
+        return 0.0 / 0.0;
+    }
+    if a.exponent < b.exponent {
+        return x;
+    }
+    let r = shl_mod(a.significand, b.significand, a.exponent - b.exponent);
+    let magnitude = scaled(r, b.exponent);
+    if a.negative { -magnitude } else { magnitude }
+}
+
+// The truncated remainder: x - n * y, where n is x / y cut to a whole number.
+pub fn remainder(x: f64, y: f64) -> f64
+    ensures { λ r. ⌜ r ≡ Ieee.rem binary64 x y ⌝ }
+{
+    if !is_finite(x) {
+        return 0.0 / 0.0;
+    }
+    if is_finite(y) {
+        return finite_remainder(x, y);
+    }
+    if y == y { x } else { y }
 }

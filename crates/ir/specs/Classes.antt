@@ -28,6 +28,10 @@ isClass class = ltb class (length classes)
 abbrev pub foldingOf : ℕ → Folding
 foldingOf class = getD classes class Never
 
+-- "2 MicrochipInput"
+abbrev pub microchipInput : ℕ
+microchipInput = 2
+
 -- "Logical and bitwise NOT, Abs, Sign, Negate, Round, Floor, Ceil and BitCount have one input"
 abbrev pub isUnary : ℕ → Bool
 isUnary class = eqb class 15 || (leb 23 class && leb class 25) || (leb 30 class && leb class 32) || eqb class 36 || eqb class 41

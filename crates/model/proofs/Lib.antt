@@ -1,6 +1,7 @@
 pub mod Maps
 pub mod Lists
 pub mod Offers
+pub mod Own
 pub mod Order
 pub mod QueueLength
 pub mod Turns

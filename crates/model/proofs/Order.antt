@@ -16,7 +16,7 @@ use Rattle.graph.proofs.Roles.{and-left, and-right}
 use Rattle.model.specs.Maps.{isSome, orElse, Map, any, upTo, iterate}
 use Rattle.model.specs.Inputs.{size, nodeOf}
 use Rattle.model.specs.Offer.{PlanAction, Offer, noOffer, nodeOffer, offer}
-use Rattle.model.specs.Trial.{State, empty, add, trial, trials, Settled}
+use Rattle.model.specs.Trial.{State, empty, add, trial, trials, Stable}
 use Rattle.model.specs.Worklist.{consumes, joiners, Work, start, newly, pop, next, step, after, worklist}
 use Rattle.model.proofs.Maps.{eqb-same, Same, same?, _≼_, _⊑_, none-some, some-false, some-true, ⊑-antisym, orElse-right, orElse-least, orElse-none, put-here, put-there, put-grows, put-least, put-none}
 use Rattle.model.proofs.Lists.{bit, count, length-keep, count-two, count-or, length-upTo, count-le, count-length, count-false, and-bit, or-bit, count-one, member-left, member-right, keep-miss, member-upTo, iterate-keeps}
@@ -231,7 +231,7 @@ module _ (own : Map Value) (g : Graph) where
       let p : offer own g (s .known) n ≡ noOffer = offer-past (s .known) n h in
       record { value = λ a e. none-some a (sym (ap (λ (o : Offer). o .value) p) ∙ e); plan = λ a e. none-some a (sym (ap (λ (o : Offer). o .plan) p) ∙ e) }
 
-  settled-fixed : (s : State) → Good s → Settled own g s → Fixed s
+  settled-fixed : (s : State) → Good s → Stable own g s → Fixed s
   settled-fixed s h q = fixed s (λ n. go n (decLt n (size g)))
     where
       go : (n : ℕ) → Dec (n < size g) → Calm s n
@@ -449,13 +449,13 @@ module _ (own : Map Value) (g : Graph) where
 
   -- the third demand's first sentence: after any list of trials from nothing known and nothing planned, what is known and planned is the
   -- worklist's exactly when no trial of any node would add to it
-  pub order : (ns : List ℕ) → (trials own g empty ns ≡ worklist own g .state) ↔ Settled own g (trials own g empty ns)
+  pub order : (ns : List ℕ) → (trials own g empty ns ≡ worklist own g .state) ↔ Stable own g (trials own g empty ns)
   order ns = (only-if, if)
     where
-      only-if : trials own g empty ns ≡ worklist own g .state → Settled own g (trials own g empty ns)
+      only-if : trials own g empty ns ≡ worklist own g .state → Stable own g (trials own g empty ns)
       only-if e = rw e (λ n l. fixed-quiet (worklist own g .state) work-fixed n)
 
-      if : Settled own g (trials own g empty ns) → trials own g empty ns ≡ worklist own g .state
+      if : Stable own g (trials own g empty ns) → trials own g empty ns ≡ worklist own g .state
       if q =
           ≤ₛ-antisym
           (trials own g empty ns)

@@ -16,7 +16,7 @@ use Rattle.graph.specs.Decode.{accepted, refused, decode}
 use Rattle.model.specs.Maps.{Map, All}
 use Rattle.model.specs.Inputs.{size}
 use Rattle.model.specs.Offer.{PlanAction, BecomeLiteral, ShortCircuit, Truncate, literals}
-use Rattle.model.specs.Trial.{empty, trials, Settled}
+use Rattle.model.specs.Trial.{empty, trials, Stable}
 use Rattle.model.specs.Worklist.{Work, worklist}
 use Rattle.model.specs.Rewrite.{rewriteWires, Endless}
 use Rattle.model.specs.Answer.{answer}
@@ -75,7 +75,7 @@ pub record Demand3 (input a : List ℕ) (pops : ℕ) : Type 0 where
   pub read : decode input ≡ accepted graph
   -- "and every list of its nodes, in any order and with any repeats ..: the known values and the plan after the list are, bit for bit, those of our worklist exactly when no trial
   -- of any node would then add a known value or a plan"
-  pub order : (ns : List ℕ) → (trials (literals graph) graph empty ns ≡ foldOf graph .state) ↔ Settled (literals graph) graph (trials (literals graph) graph empty ns)
+  pub order : (ns : List ℕ) → (trials (literals graph) graph empty ns ≡ foldOf graph .state) ↔ Stable (literals graph) graph (trials (literals graph) graph empty ns)
   -- "Our answer is, byte for byte, what document 01 writes for that graph and the worklist's known values and plan"
   pub rewrote : rewriteWires (planOf graph) (size graph) (graph .wires) ≡ some wires
   pub bytes : a ≡ answer (size graph) (foldOf graph .state) wires

@@ -1,6 +1,7 @@
 pub mod Maps
 pub mod Inputs
 pub mod Offer
+pub mod Own
 pub mod Trial
 pub mod Worklist
 pub mod Rewrite

@@ -33,5 +33,5 @@ module _ (own : Map Value) (g : Graph) where
   trials s (n ∷ ns) = trials (trial s n) ns
 
   -- "no trial of any node would then add a known value or a plan"
-  abbrev pub Settled : State → Type 0
-  Settled s = (n : ℕ) → n < size g → trial s n ≡ s
+  abbrev pub Stable : State → Type 0
+  Stable s = (n : ℕ) → n < size g → trial s n ≡ s

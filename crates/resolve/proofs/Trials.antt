@@ -2,12 +2,12 @@
 use Prim.Native.Nat.{ℕ, zero, suc, _<_}
 use native.Mathlib.Omega.{arith}
 use mathlib.Core.Path.{_≡_, refl, sym, ap, _∙_}
-use mathlib.Core.Bool.{Bool, true, false, cond, false≢true}
+use mathlib.Core.Bool.{Bool, true, false, cond, not, _&&_, false≢true}
 use mathlib.Core.Option.{Option, none, some}
 use mathlib.Core.List.{List, [], _∷_, map}
 use lib.ListN.{length, getD, List·getD-eq-default}
-use lib.Dec.{ltb}
-use borrow.Author.Tests.{ltb-true, ltb-false}
+use lib.Dec.{eqb, ltb}
+use borrow.Author.Tests.{ltb-true, ltb-false, eqb-true, ne-eqb}
 use types.Run.{OneOf, miss}
 use denote.Enum.Declared.{tagOf}
 use Rattle.ir.specs.Classes.{classes, foldingOf, hasRows, inputPorts}
@@ -21,9 +21,10 @@ use Rattle.graph.specs.Graph.{Graph}
 use Rattle.graph.specs.declared.Node.{Node}
 use Rattle.graph.specs.declared.Counts.{Counts}
 use Rattle.records.specs.Access.{noNode, noWire}
-use Rattle.model.specs.Maps.{Map}
+use Rattle.model.specs.Maps.{Map, orElse}
 use Rattle.model.specs.Inputs.{size, nodeOf, feeds, optional, property, carried, valueIn, resolveWires, resolveInput, resolveDataInput}
 use Rattle.model.specs.Offer.{Offer, noOffer, valueOffer, literalOffer, resolveCondition, chosenOffer, selectOffer, branchOffer, gateValue, gateOffer, foldingOffer, byItself, nodeOffer, offer, literalValue, literals}
+use Rattle.model.specs.Own.{unwired, isFreeInput, settingOf, ownOf}
 use Rattle.model.specs.Offer as Plan
 use Rattle.model.specs.declared.Resolved.{Resolved}
 use Rattle.ir.proofs.Folding.{the-type as folding-type}
@@ -36,7 +37,7 @@ use Rattle.inputs.specs.declared.OptionBool.{OptionBool}
 use Rattle.inputs.proofs.Feeds.{the-type as feeds-type}
 use Rattle.inputs.proofs.Chains.{Fan, Says}
 use Rattle.resolve.specs.Reads.{Reads}
-use Rattle.resolve.specs.Gives.{Gives}
+use Rattle.resolve.specs.Gives.{microchipOffer, Gives}
 
 pub inputs : {g : Graph} {c : Counts} {input table wires : List ℕ} {rows : List Bool} {first next : List ℕ} → Reads g c input table wires rows first next → Inputs g input table wires first next
 inputs r = record { properties = r .properties; wires-part = r .wires-part; bounded = r .bounded; chains = r .feeds }
@@ -71,6 +72,49 @@ pub not-known : (r : Resolved) → OneOf (0 ∷ 2 ∷ []) (tagOf resolved-type r
 not-known Resolved.Unwired k = refl
 not-known (Resolved.Known v) k = absurd (miss (0 ∷ 2 ∷ []) 1 tt k)
 not-known Resolved.Unresolved k = refl
+
+-- ---- what a node is by itself
+
+alone : (o : Option Value) → valueOffer o ≡ byItself o (valueOffer none)
+unfolding byItself valueOffer
+alone none = refl
+alone (some v) = refl
+
+wired-one : (b : Bool) (s : Option Value) (o : Offer) → byItself (cond (b && false) s none) o ≡ o
+unfolding byItself
+wired-one true s o = refl
+wired-one false s o = refl
+
+-- a Microchip node by the wires of its RerInput
+microchip-by : (known : Map Value) (class setting : ℕ) (xs : List Wire) → microchipOffer class setting (resolveWires known xs) ≡ byItself (cond (eqb class 2 && unwired xs) (settingOf setting) none) (valueOffer (valueIn (resolveWires known xs)))
+unfolding resolveWires noOffer valueOffer
+microchip-by known class setting [] = go (eqb class 2)
+  where
+    go : (b : Bool) → valueOffer (cond b (settingOf setting) none) ≡ byItself (cond (b && true) (settingOf setting) none) (valueOffer none)
+    go true = alone (settingOf setting)
+    go false = alone none
+microchip-by known class setting (w ∷ []) = go (known (w .source .«node_id»)) ∙ sym (wired-one (eqb class 2) (settingOf setting) _)
+  where
+    go : (o : Option Value) → microchipOffer class setting (carried o) ≡ valueOffer (valueIn (carried o))
+    go none = refl
+    go (some v) = refl
+microchip-by known class setting (w ∷ v ∷ ws) = sym (wired-one (eqb class 2) (settingOf setting) _)
+
+module _ (g : Graph) (n class setting : ℕ) {t : Trial} where
+  -- a wire's source passes its value on
+  pub passes : (r : Resolved) → OneOf (1 ∷ 2 ∷ []) (tagOf resolved-type r) → Gives g n (valueOffer (valueIn r)) t → Gives g n (microchipOffer class setting r) t
+  unfolding noOffer valueOffer
+  passes Resolved.Unwired k h = absurd (miss (1 ∷ 2 ∷ []) 0 tt k)
+  passes (Resolved.Known v) k h = h
+  passes Resolved.Unresolved k h = h
+
+  -- no wire
+  module _ {r : Resolved} (e : r ≡ Resolved.Unwired) where
+    pub is-set : class ≡ 2 → Gives g n (valueOffer (settingOf setting)) t → Gives g n (microchipOffer class setting r) t
+    is-set k h = rw (e, k) h
+
+    pub never-set : (class ≡ 2 → ⊥) → Gives g n (valueOffer none) t → Gives g n (microchipOffer class setting r) t
+    never-set k h = rw (e, ne-eqb class 2 k) h
 
 module _ (g : Graph) (n : ℕ) where
   -- ---- values
@@ -171,9 +215,9 @@ module _ (g : Graph) (n : ℕ) where
       default (x ∷ nodes) zero h = refl
       default (x ∷ nodes) (suc i) h = default nodes i (omega arith)
 
-  module _ (known : Map Value) where
+  module _ (own : List ℕ) (known : Map Value) where
     abbrev offered : Offer
-    offered = offer (literals g) g known n
+    offered = offer (ownOf g own) g known n
 
     abbrev ports : ℕ → Resolved
     ports = resolveInput g known n
@@ -187,33 +231,50 @@ module _ (g : Graph) (n : ℕ) where
       never-folded e = rw (← node, ← flag, e)
 
       module _ {f : Folding} (e : t ≡ false) (class : f ≡ foldingOf (nd .class)) where
-        by-folding : byItself (literalValue f (property g n valuePort)) (foldingOffer f g (nd .class) n ports) ≡ offered
-        unfolding offer nodeOffer literals
-        by-folding = rw (← node, ← flag, e, ← class)
+        -- what the node is set to plays a part only where it is a free input
+        abbrev setting : Option Value
+        setting = cond (eqb (nd .class) 2 && unwired (feeds g n rerInput)) (settingOf (getD own n 0)) none
+
+        by-itself : byItself (orElse (literalValue f (property g n valuePort)) setting) (foldingOffer f g (nd .class) n ports) ≡ offered
+        unfolding offer nodeOffer literals ownOf isFreeInput
+        by-itself = rw (← node, ← flag, e, ← class)
+
+        -- no Microchip node is one
+        module _ (other : f ≡ Folding.Microchip → ⊥) where
+          no-input : eqb (nd .class) 2 ≡ false
+          no-input = go (eqb (nd .class) 2) refl
+            where
+              go : (b : Bool) → eqb (nd .class) 2 ≡ b → b ≡ false
+              go true q = absurd (other (class ∙ ap foldingOf (eqb-true (nd .class) 2 q)))
+              go false q = refl
+
+          no-setting : (o : Option Value) → orElse o setting ≡ o
+          unfolding orElse
+          no-setting none = rw no-input
+          no-setting (some v) = refl
+
+          by-folding : byItself (literalValue f (property g n valuePort)) (foldingOffer f g (nd .class) n ports) ≡ offered
+          by-folding = rw (no-setting (literalValue f (property g n valuePort))) at by-itself
 
         pub never : f ≡ Folding.Never → noOffer ≡ offered
         unfolding byItself foldingOffer
-        never k = rw k at by-folding
+        never k = rw k at by-folding (λ m. let z : _≡_ {A = ℕ} 0 1 = cc in omega arith)
 
         pub literal : f ≡ Folding.Literal → valueOffer (property g n valuePort) ≡ offered
-        unfolding byItself foldingOffer noOffer valueOffer
-        literal k = alone (property g n valuePort) ∙ (rw k at by-folding)
-          where
-            alone : (o : Option Value) → valueOffer o ≡ byItself o noOffer
-            alone none = refl
-            alone (some v) = refl
+        unfolding foldingOffer noOffer valueOffer
+        literal k = alone (property g n valuePort) ∙ (rw k at by-folding (λ m. let z : _≡_ {A = ℕ} 0 1 = cc in omega arith))
 
-        pub microchip : f ≡ Folding.Microchip → valueOffer (valueIn (ports rerInput)) ≡ offered
-        unfolding byItself foldingOffer
-        microchip k = rw k at by-folding
+        pub microchip : f ≡ Folding.Microchip → microchipOffer (nd .class) (getD own n 0) (ports rerInput) ≡ offered
+        unfolding foldingOffer orElse resolveInput
+        microchip k = microchip-by known (nd .class) (getD own n 0) (feeds g n rerInput) ∙ (rw k at by-itself)
 
         pub select : f ≡ Folding.Select → selectOffer g n ports (resolveCondition g (nd .class) (resolveDataInput g n ports bSelectB)) ≡ offered
         unfolding byItself foldingOffer
-        select k = rw k at by-folding
+        select k = rw k at by-folding (λ m. let z : _≡_ {A = ℕ} 0 1 = cc in omega arith)
 
         pub branch : f ≡ Folding.Branch → branchOffer g n (resolveCondition g (nd .class) (resolveDataInput g n ports bCond)) ≡ offered
         unfolding byItself foldingOffer
-        branch k = rw k at by-folding
+        branch k = rw k at by-folding (λ m. let z : _≡_ {A = ℕ} 0 1 = cc in omega arith)
 
         abbrev gate : Folding → Offer
         gate x = literalOffer (gateValue g (nd .class) (map (resolveDataInput g n ports) (inputPorts x)))
@@ -225,9 +286,9 @@ module _ (g : Graph) (n : ℕ) where
         gates Folding.Microchip k h = absurd (miss (5 ∷ 6 ∷ 7 ∷ []) 2 tt h)
         gates Folding.Select k h = absurd (miss (5 ∷ 6 ∷ 7 ∷ []) 3 tt h)
         gates Folding.Branch k h = absurd (miss (5 ∷ 6 ∷ 7 ∷ []) 4 tt h)
-        gates Folding.Unary k h = ap gate (sym k ∙ class) ∙ (rw k at by-folding)
-        gates Folding.Binary k h = ap gate (sym k ∙ class) ∙ (rw k at by-folding)
-        gates Folding.Ternary k h = ap gate (sym k ∙ class) ∙ (rw k at by-folding)
+        gates Folding.Unary k h = ap gate (sym k ∙ class) ∙ (rw k at by-folding (λ m. let z : _≡_ {A = ℕ} 0 1 = cc in omega arith))
+        gates Folding.Binary k h = ap gate (sym k ∙ class) ∙ (rw k at by-folding (λ m. let z : _≡_ {A = ℕ} 0 1 = cc in omega arith))
+        gates Folding.Ternary k h = ap gate (sym k ∙ class) ∙ (rw k at by-folding (λ m. let z : _≡_ {A = ℕ} 0 1 = cc in omega arith))
 
         pub any-gate : IsGate f → gate f ≡ offered
         any-gate h = gates f refl h

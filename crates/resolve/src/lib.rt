@@ -16,20 +16,31 @@ use state::Trial;
 use state::WORDS;
 use table::CELLS;
 use value::OptionValue;
+use value::Value;
 ghost use mathlib.Core.Path.{_≡_};
 ghost use mathlib.Core.Bool.{cond};
 ghost use Prim.Native.Nat.{ℕ, _≤_, _<_};
+ghost use lib.ListN.{getD};
+ghost use Rattle.ir.specs.Limits.{maxNodes};
 ghost use Rattle.ir.specs.Ports.{inputA, inputB, bSelectB, bCond, execOutA, execOutB, valuePort};
 ghost use Rattle.graph.specs.Graph.{Graph};
 ghost use Rattle.graph.specs.Decode.{graphOf};
 ghost use Rattle.table.specs.Table.{Cells};
 ghost use Rattle.model.specs.Inputs.{size, optional, valueIn};
-ghost use Rattle.model.specs.Offer.{offer, literals, valueOffer, selectOffer, branchOffer, resolveCondition};
+ghost use Rattle.model.specs.Offer.{offer, valueOffer, selectOffer, branchOffer, resolveCondition};
+ghost use Rattle.model.specs.Own.{setNothing, settingOf, ownOf};
 ghost use Rattle.state.specs.Held.{knownOf};
 ghost use Rattle.state.specs.Trials.{offerOf, Within};
 ghost use Rattle.resolve.specs.Reads.{Reads};
 ghost use Rattle.inputs.specs.Inputs.{Inputs, wiredPort, portOf};
-ghost use Rattle.resolve.specs.Gives.{Gives};
+ghost use Rattle.resolve.specs.Gives.{microchipOffer, Gives};
+
+// What a caller sets an input to, which is then what it is by itself; any other number sets nothing too.
+pub const SET_NOTHING: u8 = 0;
+
+pub const SET_FALSE: u8 = 1;
+
+pub const SET_TRUE: u8 = 2;
 
 // A value without a plan.
 fn known(value: OptionValue) -> Trial
@@ -49,6 +60,33 @@ fn passed(input: Resolved) -> Trial
         return Trial::Nothing;
     };
     Trial::Known(v)
+}
+
+// What an input is set to.
+fn set_to(setting: u8) -> Trial
+    ensures { λ r. ⌜ ((g : Graph) (n : ℕ) → Gives g n (valueOffer (settingOf setting)) r) ⌝ }
+{
+    if setting == SET_FALSE {
+        return Trial::Known(Value::Bool(false));
+    }
+    if setting == SET_TRUE {
+        return Trial::Known(Value::Bool(true));
+    }
+    Trial::Nothing
+}
+
+// A Microchip node, by what its wires pass on. A MicrochipInput with no wire is what it is set to.
+fn try_resolve_microchip(input: Resolved, class: u8, own: &[u8; limit::NODES], n: usize) -> Trial
+    requires { ⌜ n < maxNodes ⌝ }
+    ensures { λ r. ⌜ ((g : Graph) → Gives g n (microchipOffer class (getD (now (own .entry)) n setNothing) input) r) ⌝ }
+{
+    let Resolved::Unwired = input else {
+        return passed(input);
+    };
+    if class == class::MICROCHIP_INPUT {
+        return set_to(own[n]);
+    }
+    Trial::Nothing
 }
 
 fn chosen_port(truthy: bool) -> u8
@@ -142,7 +180,7 @@ fn try_resolve_branch(
     Trial::Truncate { taken }
 }
 
-// What the trial of node n gives, by what is known.
+// What the trial of node n gives, by what is known and what inputs are set to.
 pub fn try_resolve(
     input: &[u8],
     counts: Counts,
@@ -151,12 +189,13 @@ pub fn try_resolve(
     rows: &[bool; CELLS],
     first: &[u16; SLOTS],
     next: &[u16; limit::WIRES],
+    own: &[u8; limit::NODES],
     kinds: &[u8; limit::NODES],
     words: &[u64; WORDS],
     n: usize,
 ) -> Trial
     requires { ⌜ Reads (graphOf (now input)) counts (now input) (now table) (now wires) (now rows) (now first) (now next) × (n < size (graphOf (now input))) ⌝ }
-    ensures { λ r. ⌜ (offerOf (graphOf (now (input .entry))) n r ≡ offer (literals (graphOf (now (input .entry)))) (graphOf (now (input .entry))) (knownOf (now (kinds .entry)) (now (words .entry))) n) × Within (graphOf (now (input .entry))) r ⌝ }
+    ensures { λ r. ⌜ (offerOf (graphOf (now (input .entry))) n r ≡ offer (ownOf (graphOf (now (input .entry))) (now (own .entry))) (graphOf (now (input .entry))) (knownOf (now (kinds .entry)) (now (words .entry))) n) × Within (graphOf (now (input .entry))) r ⌝ }
 {
     let node = access::node(input, n);
     if flag::is_nofold(node.flags) {
@@ -168,15 +207,12 @@ pub fn try_resolve(
     match folding {
         Folding::Never => Trial::Nothing,
         Folding::Literal => known(access::property(input, table, n, port::VALUE)),
-        Folding::Microchip => passed(inputs::resolve_input(
-            wires,
-            first,
-            next,
-            kinds,
-            words,
+        Folding::Microchip => try_resolve_microchip(
+            inputs::resolve_input(wires, first, next, kinds, words, n, port::RER_INPUT),
+            class,
+            own,
             n,
-            port::RER_INPUT,
-        )),
+        ),
         Folding::Select => try_resolve_select(
             input,
             table,

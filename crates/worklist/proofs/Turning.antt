@@ -9,7 +9,7 @@ use Rattle.graph.specs.Graph.{Graph}
 use Rattle.records.specs.Access.{wiresOf, Bounded}
 use Rattle.model.specs.Maps.{Map, isSome, orElse}
 use Rattle.model.specs.Inputs.{size}
-use Rattle.model.specs.Offer.{offer, literals}
+use Rattle.model.specs.Offer.{offer}
 use Rattle.model.specs.Trial.{State, add, trial}
 use Rattle.model.specs.Worklist.{joiners, newly, pop}
 use Rattle.model.specs.Arrays.{queueOf}
@@ -44,35 +44,35 @@ module _ (own : Map Value) (g : Graph) (s : State) (pops n : ℕ) (queue : List 
 -- ---- a turn
 
 -- node n was not known, and what a trial offers it was stored; whether that was a value
-pub record Tried (g : Graph) (n : ℕ) (kinds words actions details kinds' words' actions' details' : List ℕ) (stored : Bool) : Type 0 where
+pub record Tried (g : Graph) (own : Map Value) (n : ℕ) (kinds words actions details kinds' words' actions' details' : List ℕ) (stored : Bool) : Type 0 where
   pub unknown : knownOf kinds words n ≡ none
-  pub law : (s : State) → Holds g kinds words actions details s → Holds g kinds' words' actions' details' (add s n (offer (literals g) g (s .known) n)) × (stored ≡ isSome (offer (literals g) g (s .known) n .value))
+  pub law : (s : State) → Holds g kinds words actions details s → Holds g kinds' words' actions' details' (add s n (offer own g (s .known) n)) × (stored ≡ isSome (offer own g (s .known) n .value))
 
 -- what `store` ensures of a trial
 abbrev Stored : ℕ → Trial → List ℕ → List ℕ → List ℕ → List ℕ → List ℕ → List ℕ → List ℕ → List ℕ → Bool → Type 0
 Stored n t kinds words actions details kinds' words' actions' details' stored = (g : Graph) (s : State) → n < size g → Holds g kinds words actions details s → s .known n ≡ none → Within g t → Holds g kinds' words' actions' details' (add s n (offerOf g n t)) × (stored ≡ isSome (offerOf g n t .value))
 
-pub tried : (g : Graph) (n : ℕ) (t : Trial) (kinds words actions details kinds' words' actions' details' : List ℕ) (stored : Bool) → knownOf kinds words n ≡ none → n < size g
-    → (offerOf g n t ≡ offer (literals g) g (knownOf kinds words) n) × Within g t → Stored n t kinds words actions details kinds' words' actions' details' stored → Tried g n kinds words actions details kinds' words' actions' details' stored
-tried g n t kinds words actions details kinds' words' actions' details' stored unknown l o st =
+pub tried : (g : Graph) (own : Map Value) (n : ℕ) (t : Trial) (kinds words actions details kinds' words' actions' details' : List ℕ) (stored : Bool) → knownOf kinds words n ≡ none → n < size g
+    → (offerOf g n t ≡ offer own g (knownOf kinds words) n) × Within g t → Stored n t kinds words actions details kinds' words' actions' details' stored → Tried g own n kinds words actions details kinds' words' actions' details' stored
+tried g own n t kinds words actions details kinds' words' actions' details' stored unknown l o st =
     record {
       unknown = unknown;
-      law = λ s h. rw (o .0 ∙ ap (λ (f : Map Value). offer (literals g) g f n) (sym (h .known))) at (st g s l h (ap (λ (f : Map Value). f n) (h .known) ∙ unknown) (o .1));
+      law = λ s h. rw (o .0 ∙ ap (λ (f : Map Value). offer own g f n) (sym (h .known))) at (st g s l h (ap (λ (f : Map Value). f n) (h .known) ∙ unknown) (o .1));
     }
 
-module _ {g : Graph} {n : ℕ} {kinds words actions details kinds' words' actions' details' : List ℕ} {stored : Bool} (r : Tried g n kinds words actions details kinds' words' actions' details' stored) where
+module _ {g : Graph} {own : Map Value} {n : ℕ} {kinds words actions details kinds' words' actions' details' : List ℕ} {stored : Bool} (r : Tried g own n kinds words actions details kinds' words' actions' details' stored) where
   module _ {s : State} (pops : ℕ) (queue : List ℕ) (h : Holds g kinds words actions details s) where
     unknown-in : s .known n ≡ none
     unknown-in = ap (λ (f : Map Value). f n) (h .known) ∙ r .unknown
 
-    next-state : Holds g kinds' words' actions' details' (pop (literals g) g s pops n queue .state)
-    next-state = rw (pop-unknown (literals g) g s pops n queue unknown-in .0) (r .law s h .0)
+    next-state : Holds g kinds' words' actions' details' (pop own g s pops n queue .state)
+    next-state = rw (pop-unknown own g s pops n queue unknown-in .0) (r .law s h .0)
 
-    next-queue : pop (literals g) g s pops n queue .queue ≡ queue ++ cond stored (joiners g (knownOf kinds' words') queue n) []
-    next-queue = pop-unknown (literals g) g s pops n queue unknown-in .1 ∙ rw (sym (r .law s h .1), r .law s h .0 .known)
+    next-queue : pop own g s pops n queue .queue ≡ queue ++ cond stored (joiners g (knownOf kinds' words') queue n) []
+    next-queue = pop-unknown own g s pops n queue unknown-in .1 ∙ rw (sym (r .law s h .1), r .law s h .0 .known)
 
   -- a node that is not newly known
-  pub turn-tried : {head count : ℕ} {marks : List Bool} {places : List ℕ} → Waits marks places head count → stored ≡ false → Turned g n head count kinds words actions details places kinds' words' actions' details' marks places count
+  pub turn-tried : {head count : ℕ} {marks : List Bool} {places : List ℕ} → Waits marks places head count → stored ≡ false → Turned g own n head count kinds words actions details places kinds' words' actions' details' marks places count
   turn-tried {head} {count} {places = places} q f =
       record {
         law = λ s pops h.
@@ -80,7 +80,7 @@ module _ {g : Graph} {n : ℕ} {kinds words actions details kinds' words' action
       }
 
   -- a newly known node
-  pub turn-joined : {head count : ℕ} {places : List ℕ} {wires : List ℕ} {marks' : List Bool} {places' : List ℕ} {count' : ℕ} → wiresOf wires ≡ g .wires → Bounded (g .wires) (size g) → stored ≡ true → ConsumersJoined wires kinds' n head places count marks' places' count' → Turned g n head count kinds words actions details places kinds' words' actions' details' marks' places' count'
+  pub turn-joined : {head count : ℕ} {places : List ℕ} {wires : List ℕ} {marks' : List Bool} {places' : List ℕ} {count' : ℕ} → wiresOf wires ≡ g .wires → Bounded (g .wires) (size g) → stored ≡ true → ConsumersJoined wires kinds' n head places count marks' places' count' → Turned g own n head count kinds words actions details places kinds' words' actions' details' marks' places' count'
   turn-joined {head} {count} {places} p b f c =
       record {
         law = λ s pops h.

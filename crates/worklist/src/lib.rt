@@ -13,7 +13,10 @@ ghost use mathlib.Core.Option.{none};
 ghost use Prim.Native.Nat.{_<_};
 ghost use Rattle.graph.specs.Decode.{graphOf};
 ghost use Rattle.model.specs.Inputs.{size};
+ghost use Rattle.model.specs.Own.{ownOf};
+ghost use Rattle.model.specs.Trial.{empty};
 ghost use Rattle.state.specs.Held.{knownOf};
+ghost use Rattle.state.specs.Planned.{Holds};
 ghost use Rattle.wire_index.specs.Chains.{Consumers};
 ghost use Rattle.resolve.specs.Reads.{Reads};
 ghost use Rattle.worklist.specs.Queue.{Waits};
@@ -30,6 +33,7 @@ fn turn(
     feeds_next: &[u16; limit::WIRES],
     first: &[u16; limit::NODES],
     next: &[u16; limit::WIRES],
+    own: &[u8; limit::NODES],
     kinds: &mut [u8; limit::NODES],
     words: &mut [u64; WORDS],
     actions: &mut [u8; limit::NODES],
@@ -41,7 +45,7 @@ fn turn(
     n: usize,
 ) -> usize
     requires { ⌜ Reads (graphOf (now input)) counts (now input) (now table) (now wires) (now rows) (now «feeds_first») (now «feeds_next») × Consumers (graphOf (now input) .wires) (now first) (now next) × (n < size (graphOf (now input))) × (knownOf (now kinds) (now words) n ≡ none) × Waits (now marks) (now places) head count ⌝ }
-    ensures { λ r. ⌜ Turned (graphOf (now (input .entry))) n head count (now (kinds .entry)) (now (words .entry)) (now (actions .entry)) (now (details .entry)) (now (places .entry))
+    ensures { λ r. ⌜ Turned (graphOf (now (input .entry))) (ownOf (graphOf (now (input .entry))) (now (own .entry))) n head count (now (kinds .entry)) (now (words .entry)) (now (actions .entry)) (now (details .entry)) (now (places .entry))
         (now (kinds .exit)) (now (words .exit)) (now (actions .exit)) (now (details .exit)) (now (marks .exit)) (now (places .exit)) r ⌝ }
 {
     let trial = resolve::try_resolve(
@@ -52,6 +56,7 @@ fn turn(
         rows,
         feeds_first,
         feeds_next,
+        own,
         &*kinds,
         &*words,
         n,
@@ -62,7 +67,8 @@ fn turn(
     count
 }
 
-// Each node that is taken from the front of the queue is tried, one pop each, until none waits. The pops.
+// Each node that is taken from the front of the queue is tried, one pop each, until none waits. `own` has what inputs are set to.
+// The arrays hold nothing known and nothing planned at first. The pops.
 pub fn run(
     input: &[u8],
     counts: Counts,
@@ -73,15 +79,15 @@ pub fn run(
     feeds_next: &[u16; limit::WIRES],
     first: &[u16; limit::NODES],
     next: &[u16; limit::WIRES],
+    own: &[u8; limit::NODES],
     kinds: &mut [u8; limit::NODES],
     words: &mut [u64; WORDS],
     actions: &mut [u8; limit::NODES],
     details: &mut [u16; limit::NODES],
 ) -> usize
-    requires { ⌜ Reads (graphOf (now input)) counts (now input) (now table) (now wires) (now rows) (now «feeds_first») (now «feeds_next») × Consumers (graphOf (now input) .wires) (now first) (now next) ⌝ }
-    ensures { λ r. ⌜ Finished (graphOf (now (input .entry))) (now (kinds .exit)) (now (words .exit)) (now (actions .exit)) (now (details .exit)) r ⌝ }
+    requires { ⌜ Reads (graphOf (now input)) counts (now input) (now table) (now wires) (now rows) (now «feeds_first») (now «feeds_next») × Consumers (graphOf (now input) .wires) (now first) (now next) × Holds (graphOf (now input)) (now kinds) (now words) (now actions) (now details) empty ⌝ }
+    ensures { λ r. ⌜ Finished (graphOf (now (input .entry))) (ownOf (graphOf (now (input .entry))) (now (own .entry))) (now (kinds .exit)) (now (words .exit)) (now (actions .exit)) (now (details .exit)) r ⌝ }
 {
-    state::clear(kinds, words, actions, details);
     let mut marks = [false; limit::NODES];
     let mut queue = queue::start(&mut marks, counts.nodes);
     let mut pops: usize = 0;
@@ -102,6 +108,7 @@ pub fn run(
             feeds_next,
             first,
             next,
+            own,
             kinds,
             words,
             actions,

@@ -18,6 +18,9 @@ enum-told-4 c = search needs
 enum-told-5 : tie.Need-enum-told-5
 enum-told-5 c = search needs
 
+remainder-requires : tie.Need-remainder-requires
+remainder-requires c κs = search needs
+
 returns : tie.Need-returns
 returns c = rw (c .enum-told .given .1)
 
@@ -31,7 +34,7 @@ returns-4 : tie.Need-returns-4
 returns-4 c = rw (c .enum-told4 .given .1)
 
 returns-5 : tie.Need-returns-5
-returns-5 c = rw (c .enum-told5 .given .1)
+returns-5 c = rw (c .before .enum-told5 .given .1) (c .remainder .ensures)
 
 pub component-op-spec : {M : Type 1} → statement M
 component-op-spec =
@@ -42,6 +45,7 @@ component-op-spec =
     enum-told-3
     enum-told-4
     enum-told-5
+    remainder-requires
     returns
     returns-2
     returns-3

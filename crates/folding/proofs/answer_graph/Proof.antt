@@ -8,19 +8,19 @@ use denote.Ref.{now}
 use Rattle.graph.specs.declared.Counts.{Counts}
 use Rattle.model.specs.Inputs.{size}
 use Rattle.records.proofs.Laid.{counted, bounded, few-nodes}
-use Rattle.folding.proofs.Stages.{nodes-are}
+use Rattle.propagation.proofs.Accepted.{nodes-are}
 use Rattle.folding.proofs.answer_graph.Statement.{statement}
 use Rattle.folding.proofs.answer_graph.Tie as tie
 
 few : (c : tie.Start) → c .args .counts .nodes ≤ 1024
 unfolding size
-few c = omega (arith, nodes-are _ _ (c .pre .accepts), few-nodes (now (c .args .input)))
+few c = omega (arith, nodes-are _ _ (c .pre .settled .accepts), few-nodes (now (c .args .input)))
 
 any-above-requires : tie.Need-any-above-requires
 any-above-requires c κs = few (c .before .before)
 
 holds-requires : tie.Need-holds-requires
-holds-requires c κs = (few (c .before .before .before .before), omega (arith, ap (λ (d : Counts). d .wires) (counted _ _ (c .before .before .before .before .pre .accepts)), bounded (now (c .before .before .before .before .args .input)) .few-wires), c .before .before .before .before .pre .holds .kinds-listed)
+holds-requires c κs = (few (c .before .before .before .before), omega (arith, ap (λ (d : Counts). d .wires) (counted _ _ (c .before .before .before .before .pre .settled .accepts)), bounded (now (c .before .before .before .before .args .input)) .few-wires), c .before .before .before .before .pre .settled .finished .holds .kinds-listed)
 
 write-kept-requires : tie.Need-write-kept-requires
 write-kept-requires c κs =
@@ -35,7 +35,7 @@ same-length : tie.Need-same-length
 same-length c = search needs
 
 returns : tie.Need-returns
-returns c = c .before .before .write-kept .ensures
+returns c = c .before .before .write-kept .ensures _
 
 rewrite-graph-requires : tie.Need-rewrite-graph-requires
 rewrite-graph-requires c κs = c .before .before .before .before .before .pre

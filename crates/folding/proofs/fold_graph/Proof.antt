@@ -1,37 +1,21 @@
 -- `folding::fold_graph` meets its contract.
-use mathlib.Core.Path.{subst}
-use mathlib.Core.List.{List}
 use borrow.Author.Needs.{needs}
-use Rattle.ir.specs.declared.Wire.{Wire}
-use Rattle.wire_index.specs.Chains.{Feeds, Consumers}
-use Rattle.folding.proofs.Stages.{bounded-at}
+use Rattle.state.proofs.Stores.{cleared}
+use Rattle.folding.proofs.Stages.{plain}
 use Rattle.folding.proofs.fold_graph.Statement.{statement}
 use Rattle.folding.proofs.fold_graph.Tie as tie
 
-wires-requires : tie.Need-wires-requires
-wires-requires c κs = c .before .before .pre .0
+propagate-graph-requires : tie.Need-propagate-graph-requires
+propagate-graph-requires c κs = let p = c .before .before .before .before .before .before .before .pre in (p .0, p .1, cleared _)
 
-link-feeds-requires : tie.Need-link-feeds-requires
-link-feeds-requires c κs = bounded-at _ _ (c .before .before .before .before .before .pre .0) (c .before .before .wires .ensures)
-
-link-consumers-requires : tie.Need-link-consumers-requires
-link-consumers-requires c κs = bounded-at _ _ (c .before .before .before .before .before .before .before .before .pre .0) (c .before .before .before .before .before .wires .ensures)
-
-run-worklist-requires : tie.Need-run-worklist-requires
-run-worklist-requires c κs =
-    record {
-      accepts = c .before .before .before .before .before .before .before .before .before .before .before .before .before .before .pre .0;
-      properties = c .before .before .before .before .before .before .before .before .before .before .before .before .before .before .pre .1;
-      wires-part = c .before .before .before .before .before .before .before .before .before .before .before .wires .ensures;
-      feeds = subst (λ (ws : List Wire). Feeds ws (c .before .before .before .before .before .before .before .before .link-feeds .last .1 .1 .0) (c .before .before .before .before .before .before .before .before .link-feeds .last .1 .1 .1 .0)) (c .before .before .before .before .before .before .before .before .before .before .before .wires .ensures) (c .before .before .before .before .before .before .before .before .link-feeds .ensures);
-      consumers = subst (λ (ws : List Wire). Consumers ws (c .before .before .before .before .before .link-consumers .last .1 .1 .0) (c .before .before .before .before .before .link-consumers .last .1 .1 .1 .0)) (c .before .before .before .before .before .before .before .before .before .before .before .wires .ensures) (c .before .before .before .before .before .link-consumers .ensures);
-    }
+answer-graph-requires : tie.Need-answer-graph-requires
+answer-graph-requires c κs = record { own = _; settled = c .before .before .before .before .before .propagate-graph .ensures }
 
 same-length : tie.Need-same-length
 same-length c = search needs
 
 returns : tie.Need-returns
-returns c = c .before .before .run-worklist .ensures
+returns c = plain (c .before .before .before .before .before .before .before .before .propagate-graph .ensures) (c .before .before .answer-graph .ensures)
 
 pub fold-graph-spec : {M : Type 1} → statement M
-fold-graph-spec = tie.close (tie.spec wires-requires link-feeds-requires link-consumers-requires run-worklist-requires same-length returns)
+fold-graph-spec = tie.close (tie.spec propagate-graph-requires answer-graph-requires same-length returns)

@@ -1,3 +1,4 @@
+-- `ieee::away_from_zero` meets its contract.
 use borrow.Author.Needs.{needs}
 use mathlib.Core.Bool.{true, false}
 use denote.Floats.{passes}

@@ -1,3 +1,4 @@
+-- `ieee::round_positive` meets its contract.
 use borrow.Author.Needs.{needs}
 use Rattle.ieee.proofs.round_positive.Statement.{statement}
 use Rattle.ieee.proofs.round_positive.Tie as tie

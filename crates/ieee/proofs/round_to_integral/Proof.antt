@@ -1,3 +1,4 @@
+-- `ieee::round_to_integral` meets its contract.
 use borrow.Author.Needs.{needs}
 use mathlib.Core.Path.{ap, _∙_}
 use denote.Floats.{passes}

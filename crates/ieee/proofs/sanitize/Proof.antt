@@ -1,3 +1,4 @@
+-- `ieee::sanitize` meets its contract.
 use borrow.Author.Needs.{needs}
 use Rattle.ieee.specs.Finite.{finiteOf, sanitizeOf}
 use Rattle.ieee.proofs.sanitize.Statement.{statement}

@@ -1,3 +1,4 @@
+-- `ieee::ties_to_away` meets its contract.
 use borrow.Author.Needs.{needs}
 use mathlib.Core.Path.{_∙_}
 use mathlib.Core.Bool.{true, false}

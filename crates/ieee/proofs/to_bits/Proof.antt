@@ -1,3 +1,4 @@
+-- `ieee::to_bits` meets its contract.
 use mathlib.Core.Path.{_≡_, sym, ap, subst}
 use mathlib.Core.Bool.{false, not}
 use lib.Dec.{T}

@@ -1,3 +1,4 @@
+-- `ieee::toward_zero` meets its contract.
 use mathlib.Core.Path.{ap, _∙_, subst⁻¹}
 use Prim.Native.Nat.{ℕ}
 use denote.Floats.{passes}

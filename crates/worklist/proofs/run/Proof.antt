@@ -6,26 +6,24 @@ use lib.ListN.{length}
 use borrow.Author.Needs.{needs}
 use Rattle.graph.specs.Decode.{graphOf}
 use Rattle.model.specs.Inputs.{size}
+use Rattle.model.specs.Own.{ownOf}
 use Rattle.worklist.proofs.Running.{At, nodes-few, at-start, at-most, at-end, at-less, at-node, at-unknown, at-rest, at-next}
 use Rattle.worklist.proofs.run.Statement.{statement}
 use Rattle.worklist.proofs.run.Tie as tie
 
 abbrev Inv-loop : tie.InvT-loop
-Inv-loop input counts table wires rows feeds-first feeds-next first next kinds₀ words₀ actions₀ details₀ marks₀ queue₀ pops₀ kinds words actions details marks queue pops =
-    At (graphOf input) pops kinds words actions details marks queue
+Inv-loop input counts table wires rows feeds-first feeds-next first next own kinds₀ words₀ actions₀ details₀ marks₀ queue₀ pops₀ kinds words actions details marks queue pops =
+    At (graphOf input) (ownOf (graphOf input) own) pops kinds words actions details marks queue
 
 abbrev μ-loop : tie.MeasureT-loop
-μ-loop input counts table wires rows feeds-first feeds-next first next kinds₀ words₀ actions₀ details₀ marks₀ queue₀ pops₀ kinds words actions details marks queue pops =
+μ-loop input counts table wires rows feeds-first feeds-next first next own kinds₀ words₀ actions₀ details₀ marks₀ queue₀ pops₀ kinds words actions details marks queue pops =
     size (graphOf input) + length (graphOf input .wires) - pops
 
-clear-requires : tie.Need-clear-requires Inv-loop μ-loop
-clear-requires c κs = search needs
-
 start-requires : tie.Need-start-requires Inv-loop μ-loop
-start-requires c κs = let p = c .before .before .before .before .before .before .before .before .pre .0 in (nodes-few _ (p .counts) (p .bounded), refl)
+start-requires c κs = let p = c .before .before .before .pre .0 in (nodes-few _ (p .counts) (p .bounded), refl)
 
 loop-holds : tie.Need-loop-holds Inv-loop μ-loop
-loop-holds c = at-start (c .before .before .before .before .before .before .before .before .before .pre .0 .counts) (c .before .before .clear .ensures _) (c .start .ensures)
+loop-holds c = let p = c .before .before .before .before .pre in at-start (p .0 .counts) (p .2) (c .start .ensures)
 
 front-requires : tie.Need-front-requires Inv-loop μ-loop
 front-requires c κs = c .before .before .before .loop .inv .queued .head-in
@@ -37,7 +35,7 @@ array-write-marks : tie.Need-array-write-marks Inv-loop μ-loop
 array-write-marks c =
     let f = c .before in
     let l = f .before .before .before in
-    let b = l .before .before .before .before .before .before .before .before .before .before .before .pre .0 .bounded in
+    let b = l .before .before .before .before .before .before .pre .0 .bounded in
     omega (arith, at-node (l .before .loop .inv) b (l .loop-test .taken) (f .front .ensures), b .few-nodes)
 
 turn-requires : tie.Need-turn-requires Inv-loop μ-loop
@@ -45,7 +43,7 @@ turn-requires c κs =
     let r = c .before .before .before .before .before .before in
     let f = r .before in
     let l = f .before .before .before in
-    let p = l .before .before .before .before .before .before .before .before .before .before .before .pre in
+    let p = l .before .before .before .before .before .before .pre in
     let i = l .before .loop .inv in
     let w = l .loop-test .taken in
     let e = f .front .ensures in
@@ -57,13 +55,13 @@ longer-requires c κs = search needs
 add-pops : tie.Need-add-pops Inv-loop μ-loop
 add-pops c =
     let l = c .before .before .before .before .before .before .before .before .before .before .before .before .before in
-    let b = l .before .before .before .before .before .before .before .before .before .before .pre .0 .bounded in
+    let b = l .before .before .before .before .before .pre .0 .bounded in
     record { fits = omega (arith, at-most (l .loop .inv) b, b .few-nodes, b .few-wires) }
 
 loop-less : tie.Need-loop-less Inv-loop μ-loop
 loop-less c =
     let l = c .before .before .before .before .before .before .before .before .before .before .before .before in
-    omega (arith, at-less (l .before .loop .inv) (l .before .before .before .before .before .before .before .before .before .before .before .pre .0 .bounded) (l .loop-test .taken))
+    omega (arith, at-less (l .before .loop .inv) (l .before .before .before .before .before .before .pre .0 .bounded) (l .loop-test .taken))
 
 loop-again : tie.Need-loop-again Inv-loop μ-loop
 loop-again c =
@@ -71,11 +69,11 @@ loop-again c =
     let r = t .before .before .before .before .before .before .before in
     let f = r .before in
     let l = f .before .before .before in
-    let b = l .before .before .before .before .before .before .before .before .before .before .before .pre .0 .bounded in
+    let b = l .before .before .before .before .before .before .pre .0 .bounded in
     at-next (l .before .loop .inv) b (l .loop-test .taken) (f .front .ensures) (r .rest .ensures) (t .turn .ensures) (c .longer .ensures)
 
 returns : tie.Need-returns Inv-loop μ-loop
-returns c = at-end (c .before .loop .inv) (c .before .before .before .before .before .before .before .before .before .before .before .pre .0 .bounded) (omega (arith, c .loop-test .left))
+returns c = at-end (c .before .loop .inv) (c .before .before .before .before .before .before .pre .0 .bounded) (omega (arith, c .loop-test .left))
 
 pub run-spec : {M : Type 1} → statement M
 run-spec =
@@ -83,7 +81,6 @@ run-spec =
     (tie.spec
     Inv-loop
     μ-loop
-    clear-requires
     start-requires
     loop-holds
     front-requires

@@ -21,14 +21,14 @@ returns c =
     let b = c .before .before .before .before .before in
     let a = b .before .before .before .before .before in
     let p = a .before .before .before .before .before .pre in
-    turn-joined (tried _ _ (a .try-resolve .result) _ _ _ _ _ _ _ _ _ (p .3) (p .2) (a .try-resolve .ensures) (b .store .ensures)) (p .0 .wires-part) (p .0 .bounded) (c .before .before .before .before .if1 .taken) (c .join .ensures)
+    turn-joined (tried _ _ _ (a .try-resolve .result) _ _ _ _ _ _ _ _ _ (p .3) (p .2) (a .try-resolve .ensures) (b .store .ensures)) (p .0 .wires-part) (p .0 .bounded) (c .before .before .before .before .if1 .taken) (c .join .ensures)
 
 returns-2 : tie.Need-returns-2
 returns-2 c =
     let b = c .before in
     let a = b .before .before .before .before .before in
     let p = a .before .before .before .before .before .pre in
-    turn-tried (tried _ _ (a .try-resolve .result) _ _ _ _ _ _ _ _ _ (p .3) (p .2) (a .try-resolve .ensures) (b .store .ensures)) (p .4) (c .if1 .left)
+    turn-tried (tried _ _ _ (a .try-resolve .result) _ _ _ _ _ _ _ _ _ (p .3) (p .2) (a .try-resolve .ensures) (b .store .ensures)) (p .4) (c .if1 .left)
 
 pub turn-spec : {M : Type 1} → statement M
 turn-spec =
