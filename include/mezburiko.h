@@ -1,9 +1,8 @@
 /*
  * Mezburiko: folds the constants of a gate graph, for C99 and C++.
  *
- * The static library is target/staticlib/libfolding.a, which `rt staticlib folding` makes for x86-64 Linux. Of its
- * host it needs memcpy, memset and fmod (libm), nothing else. docs/01-scope.md has the records of graphs and answers,
- * and the rules.
+ * The static library is target/staticlib/libmezburiko.a, which `make library` makes for x86-64 Linux. Of its host it
+ * needs memcpy and memset, nothing else. docs/01-scope.md has the records of graphs and answers, and the rules.
  */
 #ifndef MEZBURIKO_H
 #define MEZBURIKO_H
@@ -58,7 +57,7 @@ enum mezburiko_number {
  * - none of the five overlaps another, and no other thread writes input or touches the rest during the call.
  * What *place, *length and *pops hold before the call plays no part.
  *
- * The call takes about 148 KB of stack at its peak (docs/PERFORMANCE.md) and no heap. The library has no writable data,
+ * The call takes about 130 KB of stack at its peak (docs/PERFORMANCE.md) and no heap. The library has no writable data,
  * so calls on different memory may run at once in any threads. It always returns, and to its caller.
  */
 uint8_t mezburiko_fold(const uint8_t *input, size_t input_length, uint8_t *out, size_t out_length, size_t *place,

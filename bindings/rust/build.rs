@@ -1,4 +1,4 @@
-//! Links libfolding.a, from the folder that MEZBURIKO_LIB_DIR names or else from where `rt staticlib folding` puts it.
+//! Links libmezburiko.a, from the folder that MEZBURIKO_LIB_DIR names or else from where `make library` puts it.
 use std::env;
 use std::path::{Path, PathBuf};
 
@@ -12,19 +12,15 @@ fn main() {
             Path::new(&manifest).join("../../target/staticlib")
         }
     };
-    let library = folder.join("libfolding.a");
+    let library = folder.join("libmezburiko.a");
     println!("cargo::rerun-if-changed={}", library.display());
     if !library.is_file() {
         println!(
-            "cargo::error=there is no {}: run `rt staticlib folding`, or name the library's folder in MEZBURIKO_LIB_DIR",
+            "cargo::error=there is no {}: run `make library`, or name the library's folder in MEZBURIKO_LIB_DIR",
             library.display()
         );
         return;
     }
     println!("cargo::rustc-link-search=native={}", folder.display());
-    println!("cargo::rustc-link-lib=static=folding");
-    if env::var_os("CARGO_CFG_UNIX").is_some() {
-        // fmod
-        println!("cargo::rustc-link-lib=m");
-    }
+    println!("cargo::rustc-link-lib=static=mezburiko");
 }

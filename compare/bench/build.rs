@@ -9,7 +9,7 @@ fn main() {
     let root = Path::new(&manifest).join("../..");
     write_tables(&root.join("tools/mezburiko/tables.py"));
     let libraries = root.join("target/staticlib");
-    for (feature, name) in [("FOLDING", "folding"), ("STAGES", "stages")] {
+    for (feature, name) in [("FOLDING", "mezburiko"), ("STAGES", "stages")] {
         if env::var_os(format!("CARGO_FEATURE_{feature}")).is_some() {
             link(&libraries, name);
         }

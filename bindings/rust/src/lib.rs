@@ -18,11 +18,11 @@
 //! # Ok::<(), mezburiko::Refusal>(())
 //! ```
 //!
-//! A call takes about 148 KB of stack, allocates nothing and shares nothing with other calls, so it may run in any
+//! A call takes about 130 KB of stack, allocates nothing and shares nothing with other calls, so it may run in any
 //! number of threads at once. The package uses `core` alone but for [`fold_to_vec`], which the feature `alloc` has.
 //!
-//! The static library `libfolding.a` is linked from the folder that the environment variable `MEZBURIKO_LIB_DIR` names,
-//! as an absolute path, or else from `target/staticlib` of the repository, where `rt staticlib folding` puts it.
+//! The static library `libmezburiko.a` is linked from the folder that the environment variable `MEZBURIKO_LIB_DIR` names,
+//! as an absolute path, or else from `target/staticlib` of the repository, where `make library` puts it.
 #![no_std]
 #![warn(missing_docs)]
 
