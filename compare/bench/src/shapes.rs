@@ -56,7 +56,7 @@ pub fn usual() -> Vec<Shape> {
     ]
 }
 
-/// Graphs on which a plain way of rewriting takes long.
+/// Graphs on which a plain way of rewriting, or the remainder of floats, takes long.
 pub fn hard() -> Vec<Shape> {
     vec![
         endless("Branches double 500 times to nothing", &doubling(500)),
@@ -84,6 +84,14 @@ pub fn hard() -> Vec<Shape> {
         shape(
             "chain with 1,024 rows, the right one last",
             &rows(chain(NODES), 1_024),
+        ),
+        shape(
+            "1,024 Modulos of Vectors, largest by smallest",
+            &remainders(),
+        ),
+        shape(
+            "640 of them that give nothing, seven trials each",
+            &tried_remainders(),
         ),
     ]
 }
@@ -239,6 +247,50 @@ pub fn dead_wires() -> Graph {
         graph.wire((13, port::EXEC_OUT_B), (1, port::INPUT_A));
     }
     graph.wire((13, port::EXEC_OUT_B), (last, port::EXEC));
+    graph
+}
+
+/// A float of the smallest exponent, with 53 digits: the largest float by it is the longest remainder.
+const SMALL: f64 = f64::from_bits(0x0019_21fb_5444_2d19);
+
+/// Modulos, each of a Vector of the largest float by one of these parts.
+fn modulos(nodes: usize, parts: [f64; 3]) -> Graph {
+    let mut graph = Graph::default();
+    graph.nodes(class::MATH_MODULO, nodes);
+    for node in 0..nodes as u16 {
+        for (port, parts) in [(port::INPUT_A, [f64::MAX; 3]), (port::INPUT_B, parts)] {
+            let bytes = parts.map(f64::to_le_bytes).concat();
+            graph.property(variant::VECTOR, node, port, bytes);
+        }
+    }
+    graph.row(class::MATH_MODULO, [variant::VECTOR, variant::VECTOR, 0]);
+    graph
+}
+
+/// As many of the longest remainders as a graph can have that folds.
+pub fn remainders() -> Graph {
+    modulos(NODES, [SMALL; 3])
+}
+
+/// Modulos with a part by 0, so that they are never known, and a backward chain of six nodes, each of which has a wire
+/// to every Modulo: each node of the chain that becomes known has all of them tried again.
+pub fn tried_remainders() -> Graph {
+    const MODULOS: u16 = 640;
+    const LINKS: u16 = 6;
+    let mut graph = modulos(usize::from(MODULOS), [SMALL, SMALL, 0.0]);
+    graph.nodes(class::MATH_ADD, usize::from(LINKS) - 1);
+    let literal = graph.node(class::LITERAL);
+    graph.int(literal, port::VALUE, 0);
+    graph.row(class::MATH_ADD, [variant::INT, variant::INT, 0]);
+    for link in MODULOS..MODULOS + LINKS {
+        if link < literal {
+            graph.wire((link + 1, port::OUTPUT), (link, port::INPUT_A));
+            graph.int(link, port::INPUT_B, 1);
+        }
+        for modulo in 0..MODULOS {
+            graph.wire((link, port::OUTPUT), (modulo, port::THIRD_INPUT));
+        }
+    }
     graph
 }
 
