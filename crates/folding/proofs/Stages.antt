@@ -38,7 +38,7 @@ use Rattle.emit.specs.Emit.{orNil, Ready}
 use Rattle.propagation.specs.Propagation.{Settled}
 use Rattle.propagation.proofs.Accepted.{accepted-graph, nodes-are, bounded-at}
 use Rattle.folding.specs.declared.Outcome.{Outcome}
-use Rattle.folding.specs.Entry.{Answers, foldBy, Worked, Folds, Rewrote, Kept}
+use Rattle.folding.specs.Entry.{Answers, foldBy, Folds, Rewrote, Kept}
 use Rattle.folding.proofs.Answers.{bytesIn, bytes-size, fold-endless, fold-many, fold-long, fold-folds}
 
 -- a refusal leaves the buffer

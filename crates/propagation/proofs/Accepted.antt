@@ -5,7 +5,7 @@ use mathlib.Core.List.{List}
 use Prim.Native.Nat.{ℕ}
 use native.Mathlib.Omega.{arith}
 use Rattle.ir.specs.declared.Wire.{Wire}
-use Rattle.graph.specs.Graph.{Graph, countsOf}
+use Rattle.graph.specs.Graph.{countsOf}
 use Rattle.graph.specs.Decode.{Verdict, accepted, refused, decode, graphOf}
 use Rattle.graph.specs.Refusals.{counts, refusal, reported}
 use Rattle.graph.specs.declared.Counts.{Counts}
