@@ -82,7 +82,7 @@ powers a b p q B h = ap (λ (z : ℕ). z % (b * 2 ^ q)) (power-split a p q h) �
 more : (p q : ℕ) → p < q → 53 + p ≤ 52 + q
 more p q h = omega arith
 
--- a smaller exponent is a smaller float
+-- a smaller exponent is less, beside one with its leading digit
 pub below : (a b p q : ℕ) → a < 2 ^ 53 → 2 ^ 52 ≤ b → p < q → a * 2 ^ p < b * 2 ^ q
 below a b p q A B h =
     lt-of-lt-of-le (shl-lt 53 p A)

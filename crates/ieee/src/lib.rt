@@ -25,7 +25,7 @@ const LEADING: u64 = 0x0010_0000_0000_0000;
 const SUBNORMAL: u64 = 51;
 // How many binary digits a u64 has beside a significand's 53.
 const SPARE: u64 = 11;
-// 10 binary digits.
+// 2^10, by which a product is taken apart.
 const DIGITS: u64 = 1024;
 // 2^52. No float of this magnitude or a larger one has a fraction.
 const NO_FRACTION: f64 = 4503599627370496.0;

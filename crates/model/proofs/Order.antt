@@ -231,8 +231,8 @@ module _ (own : Map Value) (g : Graph) where
       let p : offer own g (s .known) n ≡ noOffer = offer-past (s .known) n h in
       record { value = λ a e. none-some a (sym (ap (λ (o : Offer). o .value) p) ∙ e); plan = λ a e. none-some a (sym (ap (λ (o : Offer). o .plan) p) ∙ e) }
 
-  settled-fixed : (s : State) → Good s → Stable own g s → Fixed s
-  settled-fixed s h q = fixed s (λ n. go n (decLt n (size g)))
+  stable-fixed : (s : State) → Good s → Stable own g s → Fixed s
+  stable-fixed s h q = fixed s (λ n. go n (decLt n (size g)))
     where
       go : (n : ℕ) → Dec (n < size g) → Calm s n
       go n (yes l) = quiet-calm s h n (q n l)
@@ -461,7 +461,7 @@ module _ (own : Map Value) (g : Graph) where
           (trials own g empty ns)
           (worklist own g .state)
           (trials-below empty (worklist own g .state) work-fixed (empty-least _) ns)
-          (work-below (trials own g empty ns) (settled-fixed _ (trials-good empty empty-good ns) q))
+          (work-below (trials own g empty ns) (stable-fixed _ (trials-good empty empty-good ns) q))
 
   -- planned nodes are nodes
   pub planned-below : (n : ℕ) (q : PlanAction) → worklist own g .state .plan n ≡ some q → n < size g

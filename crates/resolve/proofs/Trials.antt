@@ -10,7 +10,7 @@ use lib.Dec.{eqb, ltb}
 use borrow.Author.Tests.{ltb-true, ltb-false, eqb-true, ne-eqb}
 use types.Run.{OneOf, miss}
 use denote.Enum.Declared.{tagOf}
-use Rattle.ir.specs.Classes.{classes, foldingOf, hasRows, inputPorts}
+use Rattle.ir.specs.Classes.{classes, foldingOf, microchipInput, hasRows, inputPorts}
 use Rattle.ir.specs.Flags.{nofold}
 use Rattle.ir.specs.Ports.{inputA, inputB, bSelectB, bCond, execOutA, execOutB, rerInput, valuePort}
 use Rattle.ir.specs.declared.Folding.{Folding}
@@ -24,7 +24,7 @@ use Rattle.records.specs.Access.{noNode, noWire}
 use Rattle.model.specs.Maps.{Map, orElse}
 use Rattle.model.specs.Inputs.{size, nodeOf, feeds, optional, property, carried, valueIn, resolveWires, resolveInput, resolveDataInput}
 use Rattle.model.specs.Offer.{Offer, noOffer, valueOffer, literalOffer, resolveCondition, chosenOffer, selectOffer, branchOffer, gateValue, gateOffer, foldingOffer, byItself, nodeOffer, offer, literalValue, literals}
-use Rattle.model.specs.Own.{unwired, isFreeInput, settingOf, ownOf}
+use Rattle.model.specs.Own.{unwired, isFreeInput, setNothing, settingOf, ownOf}
 use Rattle.model.specs.Offer as Plan
 use Rattle.model.specs.declared.Resolved.{Resolved}
 use Rattle.ir.proofs.Folding.{the-type as folding-type}
@@ -75,6 +75,17 @@ not-known Resolved.Unresolved k = refl
 
 -- ---- what a node is by itself
 
+-- a Microchip node is the only one that may be set
+abbrev settable : Folding → Bool
+settable Folding.Never = false
+settable Folding.Literal = false
+settable Folding.Microchip = true
+settable Folding.Select = false
+settable Folding.Branch = false
+settable Folding.Unary = false
+settable Folding.Binary = false
+settable Folding.Ternary = false
+
 alone : (o : Option Value) → valueOffer o ≡ byItself o (valueOffer none)
 unfolding byItself valueOffer
 alone none = refl
@@ -86,19 +97,19 @@ wired-one true s o = refl
 wired-one false s o = refl
 
 -- a Microchip node by the wires of its RerInput
-microchip-by : (known : Map Value) (class setting : ℕ) (xs : List Wire) → microchipOffer class setting (resolveWires known xs) ≡ byItself (cond (eqb class 2 && unwired xs) (settingOf setting) none) (valueOffer (valueIn (resolveWires known xs)))
+microchip-by : (known : Map Value) (class setting : ℕ) (xs : List Wire) → microchipOffer class setting (resolveWires known xs) ≡ byItself (cond (eqb class microchipInput && unwired xs) (settingOf setting) none) (valueOffer (valueIn (resolveWires known xs)))
 unfolding resolveWires noOffer valueOffer
-microchip-by known class setting [] = go (eqb class 2)
+microchip-by known class setting [] = go (eqb class microchipInput)
   where
     go : (b : Bool) → valueOffer (cond b (settingOf setting) none) ≡ byItself (cond (b && true) (settingOf setting) none) (valueOffer none)
     go true = alone (settingOf setting)
     go false = alone none
-microchip-by known class setting (w ∷ []) = go (known (w .source .«node_id»)) ∙ sym (wired-one (eqb class 2) (settingOf setting) _)
+microchip-by known class setting (w ∷ []) = go (known (w .source .«node_id»)) ∙ sym (wired-one (eqb class microchipInput) (settingOf setting) _)
   where
     go : (o : Option Value) → microchipOffer class setting (carried o) ≡ valueOffer (valueIn (carried o))
     go none = refl
     go (some v) = refl
-microchip-by known class setting (w ∷ v ∷ ws) = sym (wired-one (eqb class 2) (settingOf setting) _)
+microchip-by known class setting (w ∷ v ∷ ws) = sym (wired-one (eqb class microchipInput) (settingOf setting) _)
 
 module _ (g : Graph) (n class setting : ℕ) {t : Trial} where
   -- a wire's source passes its value on
@@ -110,11 +121,11 @@ module _ (g : Graph) (n class setting : ℕ) {t : Trial} where
 
   -- no wire
   module _ {r : Resolved} (e : r ≡ Resolved.Unwired) where
-    pub is-set : class ≡ 2 → Gives g n (valueOffer (settingOf setting)) t → Gives g n (microchipOffer class setting r) t
+    pub is-set : class ≡ microchipInput → Gives g n (valueOffer (settingOf setting)) t → Gives g n (microchipOffer class setting r) t
     is-set k h = rw (e, k) h
 
-    pub never-set : (class ≡ 2 → ⊥) → Gives g n (valueOffer none) t → Gives g n (microchipOffer class setting r) t
-    never-set k h = rw (e, ne-eqb class 2 k) h
+    pub never-set : (class ≡ microchipInput → ⊥) → Gives g n (valueOffer none) t → Gives g n (microchipOffer class setting r) t
+    never-set k h = rw (e, ne-eqb class microchipInput k) h
 
 module _ (g : Graph) (n : ℕ) where
   -- ---- values
@@ -233,19 +244,19 @@ module _ (g : Graph) (n : ℕ) where
       module _ {f : Folding} (e : t ≡ false) (class : f ≡ foldingOf (nd .class)) where
         -- what the node is set to plays a part only where it is a free input
         abbrev setting : Option Value
-        setting = cond (eqb (nd .class) 2 && unwired (feeds g n rerInput)) (settingOf (getD own n 0)) none
+        setting = cond (eqb (nd .class) microchipInput && unwired (feeds g n rerInput)) (settingOf (getD own n setNothing)) none
 
         by-itself : byItself (orElse (literalValue f (property g n valuePort)) setting) (foldingOffer f g (nd .class) n ports) ≡ offered
         unfolding offer nodeOffer literals ownOf isFreeInput
         by-itself = rw (← node, ← flag, e, ← class)
 
-        -- no Microchip node is one
-        module _ (other : f ≡ Folding.Microchip → ⊥) where
-          no-input : eqb (nd .class) 2 ≡ false
-          no-input = go (eqb (nd .class) 2) refl
+        -- another than a Microchip node is none
+        module _ (other : settable f ≡ false) where
+          no-input : eqb (nd .class) microchipInput ≡ false
+          no-input = go (eqb (nd .class) microchipInput) refl
             where
-              go : (b : Bool) → eqb (nd .class) 2 ≡ b → b ≡ false
-              go true q = absurd (other (class ∙ ap foldingOf (eqb-true (nd .class) 2 q)))
+              go : (b : Bool) → eqb (nd .class) microchipInput ≡ b → b ≡ false
+              go true q = absurd (false≢true (sym other ∙ ap settable (class ∙ ap foldingOf (eqb-true (nd .class) microchipInput q))))
               go false q = refl
 
           no-setting : (o : Option Value) → orElse o setting ≡ o
@@ -258,23 +269,23 @@ module _ (g : Graph) (n : ℕ) where
 
         pub never : f ≡ Folding.Never → noOffer ≡ offered
         unfolding byItself foldingOffer
-        never k = rw k at by-folding (λ m. let z : _≡_ {A = ℕ} 0 1 = cc in omega arith)
+        never k = rw k at by-folding refl
 
         pub literal : f ≡ Folding.Literal → valueOffer (property g n valuePort) ≡ offered
         unfolding foldingOffer noOffer valueOffer
-        literal k = alone (property g n valuePort) ∙ (rw k at by-folding (λ m. let z : _≡_ {A = ℕ} 0 1 = cc in omega arith))
+        literal k = alone (property g n valuePort) ∙ (rw k at by-folding refl)
 
-        pub microchip : f ≡ Folding.Microchip → microchipOffer (nd .class) (getD own n 0) (ports rerInput) ≡ offered
+        pub microchip : f ≡ Folding.Microchip → microchipOffer (nd .class) (getD own n setNothing) (ports rerInput) ≡ offered
         unfolding foldingOffer orElse resolveInput
-        microchip k = microchip-by known (nd .class) (getD own n 0) (feeds g n rerInput) ∙ (rw k at by-itself)
+        microchip k = microchip-by known (nd .class) (getD own n setNothing) (feeds g n rerInput) ∙ (rw k at by-itself)
 
         pub select : f ≡ Folding.Select → selectOffer g n ports (resolveCondition g (nd .class) (resolveDataInput g n ports bSelectB)) ≡ offered
         unfolding byItself foldingOffer
-        select k = rw k at by-folding (λ m. let z : _≡_ {A = ℕ} 0 1 = cc in omega arith)
+        select k = rw k at by-folding refl
 
         pub branch : f ≡ Folding.Branch → branchOffer g n (resolveCondition g (nd .class) (resolveDataInput g n ports bCond)) ≡ offered
         unfolding byItself foldingOffer
-        branch k = rw k at by-folding (λ m. let z : _≡_ {A = ℕ} 0 1 = cc in omega arith)
+        branch k = rw k at by-folding refl
 
         abbrev gate : Folding → Offer
         gate x = literalOffer (gateValue g (nd .class) (map (resolveDataInput g n ports) (inputPorts x)))
@@ -286,9 +297,9 @@ module _ (g : Graph) (n : ℕ) where
         gates Folding.Microchip k h = absurd (miss (5 ∷ 6 ∷ 7 ∷ []) 2 tt h)
         gates Folding.Select k h = absurd (miss (5 ∷ 6 ∷ 7 ∷ []) 3 tt h)
         gates Folding.Branch k h = absurd (miss (5 ∷ 6 ∷ 7 ∷ []) 4 tt h)
-        gates Folding.Unary k h = ap gate (sym k ∙ class) ∙ (rw k at by-folding (λ m. let z : _≡_ {A = ℕ} 0 1 = cc in omega arith))
-        gates Folding.Binary k h = ap gate (sym k ∙ class) ∙ (rw k at by-folding (λ m. let z : _≡_ {A = ℕ} 0 1 = cc in omega arith))
-        gates Folding.Ternary k h = ap gate (sym k ∙ class) ∙ (rw k at by-folding (λ m. let z : _≡_ {A = ℕ} 0 1 = cc in omega arith))
+        gates Folding.Unary k h = ap gate (sym k ∙ class) ∙ (rw k at by-folding refl)
+        gates Folding.Binary k h = ap gate (sym k ∙ class) ∙ (rw k at by-folding refl)
+        gates Folding.Ternary k h = ap gate (sym k ∙ class) ∙ (rw k at by-folding refl)
 
         pub any-gate : IsGate f → gate f ≡ offered
         any-gate h = gates f refl h

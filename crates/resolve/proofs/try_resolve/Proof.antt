@@ -9,6 +9,7 @@ use Rattle.inputs.proofs.Ports.{wired, few, wired-port}
 use Rattle.model.specs.declared.Resolved.{Resolved}
 use Rattle.model.specs.Offer.{valueOffer}
 use Rattle.model.specs.Inputs.{size, optional, property}
+use Rattle.model.specs.Own.{setNothing}
 use Rattle.resolve.specs.Gives.{microchipOffer}
 use Rattle.resolve.proofs.Trials.{inputs, gate-rows, listed, node-is, gives, never-folded, never, literal, microchip, select, branch, any-gate}
 use Rattle.resolve.proofs.GateValues.{by-inputs}
@@ -94,7 +95,7 @@ returns-3 c =
 returns-4 : tie.Need-returns-4
 returns-4 c =
     gives _ _ _ _ (c .try-resolve-microchip .ensures _)
-    (ap (λ (r : Resolved). microchipOffer (c .before .before .before .before .before .before .before .before .node .result .class) (getD (now (c .before .before .before .before .before .before .before .before .before .before .before .args .own)) (c .before .before .before .before .before .before .before .before .before .before .before .args .n) 0) r) (c .before .resolve-input .ensures ∙ wired-port (inputs (c .before .before .before .before .before .before .before .before .before .before .before .pre .0)) _ _ _)
+    (ap (λ (r : Resolved). microchipOffer (c .before .before .before .before .before .before .before .before .node .result .class) (getD (now (c .before .before .before .before .before .before .before .before .before .before .before .args .own)) (c .before .before .before .before .before .before .before .before .before .before .before .args .n) setNothing) r) (c .before .resolve-input .ensures ∙ wired-port (inputs (c .before .before .before .before .before .before .before .before .before .before .before .pre .0)) _ _ _)
     ∙ microchip _ _ _ _ (c .before .before .before .before .before .before .before .before .node .ensures ∙ node-is _ _ (c .before .before .before .before .before .before .before .before .before .before .before .pre .1)) (c .before .before .before .before .before .before .before .is-nofold .ensures) (c .before .before .before .before .before .before .if1 .left) (c .before .before .before .before .before .folding-of .ensures) (c .before .before .enum-told3 .given .1))
 
 returns-5 : tie.Need-returns-5

@@ -3,6 +3,7 @@ use mathlib.Core.Path.{refl}
 use lib.ListN.{getD}
 use borrow.Author.Needs.{needs}
 use denote.Ref.{now}
+use Rattle.model.specs.Own.{setNothing}
 use Rattle.resolve.proofs.Trials.{passes, is-set, never-set, nothing-known}
 use Rattle.resolve.proofs.try_resolve_microchip.Statement.{statement}
 use Rattle.resolve.proofs.try_resolve_microchip.Tie as tie
@@ -14,7 +15,7 @@ passed-requires : tie.Need-passed-requires
 passed-requires c κs = search needs
 
 returns : tie.Need-returns
-returns c = λ g. let a = c .before .before .args in passes g (a .n) (a .class) (getD (now (a .own)) (a .n) 0) (a .input) (c .before .match .keys2) (c .passed .ensures g _)
+returns c = λ g. let a = c .before .before .args in passes g (a .n) (a .class) (getD (now (a .own)) (a .n) setNothing) (a .input) (c .before .match .keys2) (c .passed .ensures g _)
 
 element-copy-out-set-to : tie.Need-element-copy-out-set-to
 element-copy-out-set-to c = search needs
