@@ -1,30 +1,19 @@
 -- Records written one after the other, one for each number below n.
-use Prim.Native.Nat.{ℕ, zero, suc, _+_, _*_, _≤_, _<_}
+use Prim.Native.Nat.{ℕ, suc, _+_, _*_, _≤_, _<_}
 use native.Mathlib.Omega.{arith}
 use native.Mathlib.Decide.{le-ind}
 use native.Mathlib.Numerals.{add-one}
-use mathlib.Core.Path.{_≡_, refl, sym, ap, _∙_}
-use mathlib.Core.List.{List, [], _∷_, _++_, append-assoc, append-nil}
-use lib.ListN.{length, length-append}
+use mathlib.Core.Path.{_≡_, refl, ap}
+use mathlib.Core.List.{List, []}
+use lib.ListN.{length}
 use Rattle.encoding.specs.Numbers.{Written}
 use Rattle.encoding.proofs.Splices.{written-length, written-more, stored}
 use Rattle.model.specs.Maps.{upTo}
 use Rattle.model.specs.Answer.{each}
-
-pub each-append : {A : Type 0} (f : A → List ℕ) (xs ys : List A) → each f (xs ++ ys) ≡ each f xs ++ each f ys
-unfolding each
-each-append f [] ys = refl
-each-append f (x ∷ xs) ys = ap (λ (l : List ℕ). f x ++ l) (each-append f xs ys) ∙ sym (append-assoc (f x) (each f xs) (each f ys))
-
-pub each-up : (f : ℕ → List ℕ) (i : ℕ) → each f (upTo (suc i)) ≡ each f (upTo i) ++ f i
-unfolding upTo
-each-up f i = each-append f (upTo i) (i ∷ []) ∙ ap (λ (l : List ℕ). each f (upTo i) ++ l) (unfold each in append-nil (f i))
-
-pub each-size : (f : ℕ → List ℕ) (i : ℕ) → length (each f (upTo (i + 1))) ≡ length (each f (upTo i)) + length (f i)
-each-size f i = ap (λ (k : ℕ). length (each f (upTo k))) (add-one i) ∙ (ap length (each-up f i) ∙ length-append (each f (upTo i)) (f i))
+use Rattle.model.proofs.Each.{each-up, each-size}
 
 up-less : (f : ℕ → List ℕ) (i n : ℕ) → i ≤ n → length (each f (upTo i)) ≤ length (each f (upTo n))
-up-less f i n h = le-ind (λ m. length (each f (upTo i)) ≤ length (each f (upTo m))) (omega arith) (λ m l ih. omega (arith, ih, ap length (each-up f m), length-append (each f (upTo m)) (f m))) n h
+up-less f i n h = le-ind (λ m. length (each f (upTo i)) ≤ length (each f (upTo m))) (omega arith) (λ m l ih. omega (arith, ih, each-size f m)) n h
 
 -- the records of the first i are written, of n that fit
 pub record Filling (f : ℕ → List ℕ) (n : ℕ) (l m : List ℕ) (from at i : ℕ) : Type 0 where
@@ -44,7 +33,7 @@ module _ {f : ℕ → List ℕ} {n : ℕ} {l m : List ℕ} {from at i : ℕ} (s 
   fill-long = written-length (s .wrote) (omega (arith, s .room, up-less f i n (s .within)))
 
   pub fill-room : i < n → at + length (f i) ≤ length m
-  fill-room h = omega (arith, fill-long, s .room, s .wrote .past, up-less f (suc i) n h, ap length (each-up f i), length-append (each f (upTo i)) (f i))
+  fill-room h = omega (arith, fill-long, s .room, s .wrote .past, up-less f (suc i) n h, each-size f i)
 
   pub fill-next : i < n → {o : List ℕ} {a : ℕ} → Written (f i) m o at a → Filling f n l o from a (i + 1)
   fill-next h p =
@@ -60,7 +49,7 @@ unfolding upTo each
 sizes-start f h = refl
 
 pub sizes-next : (f h : ℕ → List ℕ) (i sum a b : ℕ) → sum ≡ length (each f (upTo i)) + length (each h (upTo i)) → a ≡ length (f i) → b ≡ length (h i) → sum + (a + b) ≡ length (each f (upTo (i + 1))) + length (each h (upTo (i + 1)))
-sizes-next f h i sum a b e p q = omega (arith, each-size f i, each-size h i)
+sizes-next f h i sum a b e p q = rw (add-one i) (omega (arith, each-size f i, each-size h i))
 
 pub sizes-none : (f h : ℕ → List ℕ) → length (each f (upTo 0)) + length (each h (upTo 0)) ≤ 0
 unfolding upTo each
@@ -68,10 +57,4 @@ sizes-none f h = omega arith
 
 -- the two records of number i are at most b longer than 23, and those below it in all at most `more` longer than 23 each
 pub sizes-more : (f h : ℕ → List ℕ) (i more b : ℕ) → length (each f (upTo i)) + length (each h (upTo i)) ≤ 23 * i + more → length (f i) + length (h i) ≤ 23 + b → length (each f (upTo (i + 1))) + length (each h (upTo (i + 1))) ≤ 23 * (i + 1) + (more + b)
-sizes-more f h i more b p q = omega (arith, each-size f i, each-size h i)
-
-pub sizes-most : (f h : ℕ → List ℕ) (n : ℕ) → ((i : ℕ) → i < n → length (f i) + length (h i) ≤ 23) → length (each f (upTo n)) + length (each h (upTo n)) ≤ 23 * n
-unfolding upTo each
-sizes-most f h zero b = omega arith
-sizes-most f h (suc n) b =
-    omega (arith, sizes-most f h n (λ i l. b i (omega arith)), b n (omega arith), ap length (each-up f n), length-append (each f (upTo n)) (f n), ap length (each-up h n), length-append (each h (upTo n)) (h n))
+sizes-more f h i more b p q = rw (add-one i) (omega (arith, each-size f i, each-size h i))

@@ -1,15 +1,16 @@
 -- How long the records of a node are, by the kind of its value and its action.
-use Prim.Native.Nat.{ℕ, _+_, _*_, _≤_, _<_}
+use Prim.Native.Nat.{ℕ, zero, suc, _+_, _*_, _≤_, _<_}
 use native.Mathlib.Omega.{arith}
+use native.Mathlib.Numerals.{add-one}
 use native.Mathlib.Decide.{ℕ-discrete}
 use mathlib.Core.Path.{_≡_, refl, sym, subst}
 use mathlib.Core.Bool.{Bool, true, false, cond}
 use mathlib.Core.Option.{Option, none, some}
-use mathlib.Core.List.{[]}
+use mathlib.Core.List.{List, []}
 use mathlib.Core.Logic.{inl, inr, _≢_}
 use lib.Dec.{eqb, ltb}
-use lib.ListN.{length}
-use borrow.Author.Tests.{ne-eqb, ltb-true, ltb-false}
+use lib.ListN.{length, getD}
+use borrow.Author.Tests.{ne-eqb, ltb-true, ltb-false, le-ltb}
 use Rattle.ir.specs.Kinds.{bodyOf}
 use Rattle.ir.specs.Ports.{valuePort}
 use Rattle.encoding.specs.Numbers.{bytesOf}
@@ -18,7 +19,7 @@ use Rattle.value.specs.declared.Value.{Value}
 use Rattle.model.specs.Answer.{knownBytes}
 use Rattle.model.proofs.Maps.{by-bool}
 use Rattle.state.specs.Held.{isKind, heldValue, held}
-use Rattle.answer.specs.Nodes.{literalFate, fateBy}
+use Rattle.answer.specs.Nodes.{literalFate, fateBy, compositeCount}
 
 -- what words of a kind say of a value's bytes
 record Sized (kind a b c d : ℕ) : Type 0 where
@@ -134,6 +135,11 @@ pub bytes-some : (i : ℕ) (o : Option Value) (v : Value) → o ≡ some v → k
 unfolding knownBytes
 bytes-some i o v e = rw e refl
 
+-- a known node's record is as long whichever port it names
+pub port-room : (i port at n : ℕ) (o : Option Value) (v : Value) → o ≡ some v → at + length (knownBytes i o) ≤ n → at + length (propertyBytes i port v) ≤ n
+unfolding knownBytes bytesOf
+port-room i port at n o v e h = subst (λ (k : Option Value). at + length (knownBytes i k) ≤ n) e h
+
 pub by-plain : (i action : ℕ) (o : Option Value) → action ≢ 1 → fateBy i action o ≡ headBytes (cond (eqb action 0) 0x10 0x11) i
 unfolding fateBy
 by-plain i action o h = rw (ne-eqb action 1 h) refl
@@ -149,3 +155,18 @@ by-literal i action o v e h = rw (e, h) refl
 pub head-size : (kind i : ℕ) → length (headBytes kind i) ≡ 3
 unfolding bytesOf
 head-size kind i = refl
+
+-- ---- the count of composites
+
+pub count-none : (kinds : List ℕ) → compositeCount kinds 0 ≡ 0
+unfolding compositeCount
+count-none kinds = refl
+
+pub count-more : (kinds : List ℕ) (n : ℕ) → compositeCount kinds (n + 1) ≡ compositeCount kinds n + cond (ltb 5 (getD kinds n 0)) 1 0
+unfolding compositeCount
+count-more kinds n = rw add-one refl
+
+pub count-low : (kinds : List ℕ) (n : ℕ) → ((m : ℕ) → m < n → getD kinds m 0 ≤ 5) → compositeCount kinds n ≡ 0
+unfolding compositeCount
+count-low kinds zero h = refl
+count-low kinds (suc n) h = rw (count-low kinds n (λ m l. h m (omega arith)), le-ltb 5 (getD kinds n 0) (h n (omega arith))) refl

@@ -11,16 +11,14 @@ ghost use mathlib.Core.Path.{_≡_};
 ghost use mathlib.Core.Bool.{cond};
 ghost use mathlib.Core.Option.{some};
 ghost use mathlib.Core.List.{List, _++_};
-ghost use mathlib.Core.Logic.{_⊎_};
 ghost use Prim.Native.Nat.{ℕ, _+_, _*_, _≤_, _<_};
 ghost use lib.Dec.{eqb, ltb, leb};
 ghost use lib.ListN.{length, getD};
 ghost use Rattle.ir.specs.Limits.{maxNodes};
 ghost use Rattle.encoding.specs.Numbers.{Written};
-ghost use Rattle.encoding.specs.Values.{headBytes, valueBytes};
 ghost use Rattle.model.specs.Answer.{knownBytes};
 ghost use Rattle.state.specs.Held.{held, knownOf, isKind};
-ghost use Rattle.answer.specs.Nodes.{knownRecords, literalFate, fateBy, fateRecords};
+ghost use Rattle.answer.specs.Nodes.{knownRecords, literalFate, fateBy, fateRecords, compositeCount};
 
 // The kinds of the records of fates. A planned literal's kind is this much above that of its value.
 pub const FATE_KEPT: u8 = 0x10;
@@ -87,7 +85,9 @@ fn composite(kind: u8) -> usize
 // How many of the first `nodes` nodes have a composite.
 fn count_composites(kinds: &[u8; limit::NODES], nodes: usize) -> usize
     requires { ⌜ (nodes ≤ maxNodes) × ((m : ℕ) → isKind (getD (now kinds) m 0)) ⌝ }
-    ensures { λ r. ⌜ ((words actions : List ℕ) → length (knownRecords (now (kinds .entry)) words nodes) + length (fateRecords (now (kinds .entry)) words actions nodes) ≤ 23 * nodes + 48 * r) × (r ≤ nodes) ⌝ }
+    ensures bound { λ r. ⌜ ((words actions : List ℕ) → length (knownRecords (now (kinds .entry)) words nodes) + length (fateRecords (now (kinds .entry)) words actions nodes) ≤ 23 * nodes + 48 * r) ⌝ }
+    ensures few { λ r. ⌜ r ≤ nodes ⌝ }
+    ensures count { λ r. ⌜ r ≡ compositeCount (now (kinds .entry)) nodes ⌝ }
 {
     let mut count = 0;
     let mut i = 0;
@@ -101,7 +101,9 @@ fn count_composites(kinds: &[u8; limit::NODES], nodes: usize) -> usize
 // The same, asked first whether there is one.
 fn composites(kinds: &[u8; limit::NODES], nodes: usize) -> usize
     requires { ⌜ (nodes ≤ maxNodes) × ((m : ℕ) → isKind (getD (now kinds) m 0)) ⌝ }
-    ensures { λ r. ⌜ ((words actions : List ℕ) → length (knownRecords (now (kinds .entry)) words nodes) + length (fateRecords (now (kinds .entry)) words actions nodes) ≤ 23 * nodes + 48 * r) × (r ≤ nodes) ⌝ }
+    ensures bound { λ r. ⌜ ((words actions : List ℕ) → length (knownRecords (now (kinds .entry)) words nodes) + length (fateRecords (now (kinds .entry)) words actions nodes) ≤ 23 * nodes + 48 * r) ⌝ }
+    ensures few { λ r. ⌜ r ≤ nodes ⌝ }
+    ensures count { λ r. ⌜ r ≡ compositeCount (now (kinds .entry)) nodes ⌝ }
 {
     if state::any_above(kinds, nodes, kind::BOOL) {
         return count_composites(kinds, nodes);

@@ -10,7 +10,7 @@ use Rattle.whole.specs.declared.OptionFloat.{OptionFloat}
 use Rattle.value.specs.declared.Value.{Value}
 use Rattle.value.specs.declared.Operand.{Operand}
 use Rattle.value.specs.declared.OptionValue.{OptionValue}
-use Rattle.conversions.specs.Conversions.{zero, scalarOf, mathInOf, givenInt}
+use Rattle.conversions.specs.Conversions.{floatZero, scalarOf, mathInOf, givenInt}
 use Rattle.conversions.specs.declared.MathIn.{MathIn}
 use Rattle.arithmetic.specs.declared.MathOp.{MathOp}
 use Rattle.arithmetic.specs.declared.OptionVector.{OptionVector}
@@ -33,7 +33,7 @@ floatOp MathOp.Modulo x y = rem binary64 x y
 
 -- "None when exactly one operand is below 0 and that remainder is finite and not 0"
 abbrev pub mixedSigns : Float → Float → Float → Bool
-mixedSigns x y r = not (Bool·beq (lt x zero) (lt y zero)) && ne r zero && finiteOf r
+mixedSigns x y r = not (Bool·beq (lt x floatZero) (lt y floatZero)) && ne r floatZero && finiteOf r
 
 -- the sign rule is Modulo's alone; r is what the operation gives
 abbrev pub refusedOp : MathOp → Float → Float → Float → Bool

@@ -14,7 +14,7 @@ use Rattle.value.specs.declared.Value.{Value}
 use Rattle.value.specs.declared.Operand.{Operand}
 use Rattle.value.specs.declared.OptionValue.{OptionValue}
 use Rattle.value.specs.Variants.{variantOf}
-use Rattle.conversions.specs.Conversions.{zero, truthyOf, scalarOf, onlyIntOf}
+use Rattle.conversions.specs.Conversions.{floatZero, truthyOf, scalarOf, onlyIntOf}
 use Rattle.comparison.specs.declared.OptionBool.{OptionBool}
 
 -- two floats "by S"
@@ -89,12 +89,12 @@ eqValue (Value.Color r g b′ a) b = eqComposite (Value.Color r g b′ a) b
 -- "Unwired takes the other's zero."
 abbrev pub zeroLike : Value → Value
 zeroLike (Value.Int n) = Value.Int (pos 0)
-zeroLike (Value.Float x) = Value.Float zero
+zeroLike (Value.Float x) = Value.Float floatZero
 zeroLike (Value.Bool b) = Value.Bool false
-zeroLike (Value.Vector x y z) = Value.Vector zero zero zero
-zeroLike (Value.Rotator p y r) = Value.Rotator zero zero zero
-zeroLike (Value.Quat x y z w) = Value.Quat zero zero zero zero
-zeroLike (Value.Color r g b a) = Value.Color zero zero zero zero
+zeroLike (Value.Vector x y z) = Value.Vector floatZero floatZero floatZero
+zeroLike (Value.Rotator p y r) = Value.Rotator floatZero floatZero floatZero
+zeroLike (Value.Quat x y z w) = Value.Quat floatZero floatZero floatZero floatZero
+zeroLike (Value.Color r g b a) = Value.Color floatZero floatZero floatZero floatZero
 
 -- an operand as it counts beside another; of two Unwired neither gets a zero
 abbrev pub orZeroLike : Operand → Operand → Operand

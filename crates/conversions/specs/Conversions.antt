@@ -12,17 +12,17 @@ use Rattle.value.specs.declared.Operand.{Operand}
 use Rattle.value.specs.declared.OptionValue.{OptionValue}
 use Rattle.conversions.specs.declared.MathIn.{MathIn}
 
-abbrev pub zero : Float
-zero = ofBits binary64 0
+abbrev pub floatZero : Float
+floatZero = ofBits binary64 0
 
 abbrev pub floatOfBool : Bool → Float
-floatOfBool false = zero
+floatOfBool false = floatZero
 floatOfBool true = ofBits binary64 0x3ff0_0000_0000_0000
 
 -- "T (truthy): Int or S not zero; a true Bool; Unwired and the four composites are false."
 abbrev pub truthyValue : Value → Bool
 truthyValue (Value.Int n) = not (eqZ n (pos 0))
-truthyValue (Value.Float x) = ne (sanitizeOf x) zero
+truthyValue (Value.Float x) = ne (sanitizeOf x) floatZero
 truthyValue (Value.Bool b) = b
 truthyValue (Value.Vector x y z) = false
 truthyValue (Value.Rotator p y r) = false
@@ -44,7 +44,7 @@ scalarValue (Value.Quat x y z w) = OptionFloat.None
 scalarValue (Value.Color r g b a) = OptionFloat.None
 
 abbrev pub scalarOf : Operand → OptionFloat
-scalarOf Operand.Unwired = OptionFloat.Some zero
+scalarOf Operand.Unwired = OptionFloat.Some floatZero
 scalarOf (Operand.Known v) = scalarValue v
 
 -- "Add to Modulo: Unwired is Int 0, Bool an Int. .. Else floats by S"

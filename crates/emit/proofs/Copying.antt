@@ -18,11 +18,11 @@ use Rattle.records.specs.Access.{wiresOf, noWire}
 use Rattle.records.proofs.Runs.{wires-length}
 use Rattle.model.specs.Answer.{each}
 use Rattle.model.specs.Maps.{upTo}
-use Rattle.answer.proofs.Fill.{each-append, written-none}
+use Rattle.model.proofs.Each.{each-append, wires-size}
+use Rattle.answer.proofs.Fill.{written-none}
 use Rattle.rewrite.specs.Tallied.{keptWire, keptWires}
 use Rattle.rewrite.proofs.KeptTargets.{kept-few, all-kept}
 use Rattle.emit.specs.Emit.{KeepsAll}
-use Rattle.emit.proofs.Fanning.{wires-size}
 use Rattle.emit.proofs.Writing.{by-number}
 
 -- the first i bytes are copied, of those that fit

@@ -8,20 +8,16 @@ use lib.ListN.{length, getD, length-append, length-set}
 use Rattle.ir.specs.Limits.{maxWires}
 use Rattle.ir.specs.declared.PortRef.{PortRef}
 use Rattle.ir.specs.declared.Wire.{Wire}
-use Rattle.encoding.specs.Numbers.{bytesOf, Written}
+use Rattle.encoding.specs.Numbers.{Written}
 use Rattle.encoding.specs.Wires.{wireBytes}
 use Rattle.encoding.proofs.Splices.{written-length, written-more}
 use Rattle.records.specs.Access.{noWire}
 use Rattle.model.specs.Answer.{each}
 use Rattle.state.specs.Planned.{shapeOf}
-use Rattle.answer.proofs.Fill.{each-append, written-none}
+use Rattle.model.proofs.Each.{each-append, wires-size}
+use Rattle.answer.proofs.Fill.{written-none}
 use Rattle.emit.specs.Emit.{leadsTo, fan, Net, Stacked, Standing, Descended, Popped, Counts, Fans}
 use Rattle.emit.proofs.Stack.{upward}
-
-pub wires-size : (ws : List Wire) → length (each wireBytes ws) ≡ 7 * length ws
-unfolding each bytesOf
-wires-size [] = refl
-wires-size (w ∷ ws) = omega (arith, length-append (wireBytes w) (each wireBytes ws), wires-size ws)
 
 pub fan-size : (e : PortRef) (ts : List PortRef) → length (fan e ts) ≡ length ts
 unfolding fan
@@ -123,8 +119,8 @@ pub popped-long : {next stack stack' : List ℕ} {top wire r : ℕ} → length s
 popped-long {next} {stack} {stack'} {top} {wire} {r} l P = go (ℕ-discrete top 0)
   where
     push : Dec (getD next wire 0 ≡ 0) → 0 < top → length stack' ≡ maxWires
-    push (yes e) h = rw (P .rest h .none e .0) l
-    push (no e) h = rw (P .rest h .one (omega (arith, e)) .0) (length-set stack (top - 1) (getD next wire 0) ∙ l)
+    push (yes e) h = rw (P .rest h .left e .0) l
+    push (no e) h = rw (P .rest h .put (omega (arith, e)) .0) (length-set stack (top - 1) (getD next wire 0) ∙ l)
 
     go : Dec (top ≡ 0) → length stack' ≡ maxWires
     go (yes e) = rw (P .same e .0) l

@@ -79,9 +79,9 @@ module _ (p : Map PlanAction) (n : ℕ) (ws : List Wire) (next : List ℕ) where
       code-is m = ℕ-discrete m 0
 
       go : Dec (code ≡ 0) → Stacked p n ws next stack' r (lead p n us ++ rs) × (length stack' ≡ maxWires)
-      go (yes z) = let k = h .none z in (rw (k .0, k .1) (unpushed s c z), rw (k .0) e)
+      go (yes z) = let k = h .left z in (rw (k .0, k .1) (unpushed s c z), rw (k .0) e)
       go (no z) =
-          let k = h .one (omega (arith, z)) in
+          let k = h .put (omega (arith, z)) in
           let q : r ≡ suc top = omega (arith, k .1) in
           (rw (k .0, q) (pushed e l s c a (omega (arith, z))), rw (k .0) (length-set stack top code ∙ e))
 

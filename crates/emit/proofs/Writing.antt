@@ -22,14 +22,15 @@ use Rattle.model.specs.Answer.{each}
 use Rattle.model.specs.Rewrite.{collect, reach, Source, cycles, drops, from, follow, joined, rewriteWire, rewriteWires}
 use Rattle.model.specs.TargetCounts.{cap, cappedLength}
 use Rattle.model.proofs.Maps.{none-some}
+use Rattle.model.proofs.Each.{each-append, each-up, wires-size}
 use Rattle.model.proofs.TargetCounts.{both-some}
 use Rattle.state.specs.Planned.{shapeOf}
-use Rattle.answer.proofs.Fill.{each-append, each-up, written-none}
+use Rattle.answer.proofs.Fill.{written-none}
 use Rattle.rewrite.specs.Counts.{noCount, entry, countIn}
 use Rattle.rewrite.specs.Sources.{originOf, Traced}
 use Rattle.rewrite.specs.declared.Origin.{Origin}
 use Rattle.emit.specs.Emit.{orNil, leadsTo, becomes, fan, Live, Shared, Ready, Prepared}
-use Rattle.emit.proofs.Fanning.{wires-size, fan-size}
+use Rattle.emit.proofs.Fanning.{fan-size}
 use Rattle.emit.proofs.Stack.{leaf}
 use Rattle.emit.proofs.Nets.{entry-zero, net}
 

@@ -115,8 +115,8 @@ pub record Descended (p : Map PlanAction) (n : ℕ) (ws : List Wire) (next stack
 
 -- a code was pushed, unless it is 0
 pub record Pushed (stack stack' : List ℕ) (top code r : ℕ) : Type 0 where
-  pub none : code ≡ 0 → (stack' ≡ stack) × (r ≡ top)
-  pub one : 0 < code → (stack' ≡ set stack top code) × (r ≡ top + 1)
+  pub left : code ≡ 0 → (stack' ≡ stack) × (r ≡ top)
+  pub put : 0 < code → (stack' ≡ set stack top code) × (r ≡ top + 1)
 
 -- the top entry is the code of a wire
 pub record Popable (stack : List ℕ) (top : ℕ) : Type 0 where

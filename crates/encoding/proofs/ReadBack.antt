@@ -18,9 +18,9 @@ use Rattle.ieee.specs.Bits.{bitsOf}
 use Rattle.whole.specs.Bits.{fromBits}
 use Rattle.value.specs.declared.Value.{Value}
 use Rattle.value.specs.declared.Value.the-variants.{Int, Float, Bool, Vector, Rotator, Quat, Color}
-use Rattle.encoding.specs.Numbers.{byte, numberAt, u16At, bytesOf, splice}
+use Rattle.encoding.specs.Numbers.{byte, numberAt, u16At, bytesOf, splice, Written}
 use Rattle.encoding.specs.Wires.{wireAt, wireBytes, portRefBytes}
-use Rattle.encoding.specs.Values.{floatAt, compositeAt, valueAt, kindOf, floatBytes, threeBytes, fourBytes, valueBytes, headBytes, propertyBytes}
+use Rattle.encoding.specs.Values.{floatAt, compositeAt, valueAt, kindOf, floatBytes, threeBytes, fourBytes, valueBytes, headBytes, propertyBytes, PropertyBack}
 use Rattle.ieee.proofs.Bits.{bitsOf-lt, ofBits-bitsOf}
 use Rattle.encoding.proofs.Splices.{splice-at}
 
@@ -115,32 +115,29 @@ value-back (Color x y z w) s i f h =
 
 -- ---- records
 
--- what is read of a property's record
-pub record PropertyBack (node port : ℕ) (v : Value) (s : List ℕ) (at : ℕ) : Type 0 where
-  pub kind : byte s at ≡ kindOf v
-  pub node-id : u16At s (at + 1) ≡ node
-  pub its-port : byte s (at + 3) ≡ port
-  pub value : valueAt (byte s at) s (at + 4) ≡ v
+-- a value that was written is read back
+pub written-back : {v u : Value} {l m : List ℕ} {at next : ℕ} → v ≡ u → Stored u → at + length (valueBytes v) ≤ length l → Written (valueBytes u) l m at next → Written (valueBytes v) l m at next × (valueAt (kindOf v) m at ≡ v)
+written-back {v} {u} {l} {m} {at} {next} e f room w =
+    let b : valueAt (kindOf u) (splice l at (valueBytes u)) at ≡ u = value-back u _ at f (splice-at l at (valueBytes u) (rw e at room)) in
+    rw e (w, ap (λ (s : List ℕ). valueAt (kindOf u) s at) (w .wrote) ∙ b)
 
-pub property-back : (node port : ℕ) (v : Value) (l : List ℕ) (at : ℕ) → node < 65536 → Stored v → at + length (propertyBytes node port v) ≤ length l → PropertyBack node port v (splice l at (propertyBytes node port v)) at
-property-back node port v l at n f room =
-    let s = splice l at (propertyBytes node port v) in
-    let all : Stands (propertyBytes node port v) s at = splice-at l at (propertyBytes node port v) room in
+pub property-back : {node port : ℕ} {v : Value} {l s : List ℕ} {at next : ℕ} → at + length (propertyBytes node port v) ≤ length l → Written (propertyBytes node port v) l s at next → {past : ℕ} → past ≡ at + 4 → valueAt (kindOf v) s past ≡ v → node < 65536 → PropertyBack node port v s at
+property-back {node} {port} {v} {l} {s} {at} room w e given n =
+    let all : Stands (propertyBytes node port v) s at = rw (w .wrote) (splice-at l at (propertyBytes node port v) room) in
     let head : Stands ((kindOf v ∷ []) ++ bytesOf 2 node) s at = left (headBytes (kindOf v) node) (port ∷ valueBytes v) s at all in
-    let past : Stands ((port ∷ []) ++ valueBytes v) s (at + 3) = right (headBytes (kindOf v) node) (port ∷ valueBytes v) s at all (at + 3) (omega (arith, bytes-length 2 node)) in
+    let rest : Stands ((port ∷ []) ++ valueBytes v) s (at + 3) = right (headBytes (kindOf v) node) (port ∷ valueBytes v) s at all (at + 3) (omega (arith, bytes-length 2 node)) in
     let kind : byte s at ≡ kindOf v = byte-back (kindOf v) s at (left (kindOf v ∷ []) (bytesOf 2 node) s at head) in
     record {
       kind = kind;
       node-id = number-back 2 node s (at + 1) n (right (kindOf v ∷ []) (bytesOf 2 node) s at head (at + 1) refl);
-      its-port = byte-back port s (at + 3) (left (port ∷ []) (valueBytes v) s (at + 3) past);
-      value = ap (λ (k : ℕ). valueAt k s (at + 4)) kind ∙ value-back v s (at + 4) f (right (port ∷ []) (valueBytes v) s (at + 3) past (at + 4) (omega arith));
+      its-port = byte-back port s (at + 3) (left (port ∷ []) (valueBytes v) s (at + 3) rest);
+      value = ap (λ (k : ℕ). valueAt k s (at + 4)) kind ∙ ap (valueAt (kindOf v) s) (sym e) ∙ given;
     }
 
-pub wire-back : (w : Wire) (l : List ℕ) (at : ℕ) → w .source .«node_id» < 65536 → w .target .«node_id» < 65536 → at + 7 ≤ length l → wireAt (splice l at (wireBytes w)) at ≡ w
-wire-back w l at a b room =
-    let s = splice l at (wireBytes w) in
+pub wire-back : (w : Wire) {l s : List ℕ} {at next : ℕ} → at + 7 ≤ length l → Written (wireBytes w) l s at next → w .source .«node_id» < 65536 → w .target .«node_id» < 65536 → wireAt s at ≡ w
+wire-back w {l} {s} {at} room wrote a b =
     let seven : length (wireBytes w) ≡ 7 = unfold bytesOf in refl in
-    let all : Stands ((2 ∷ []) ++ (portRefBytes (w .source) ++ portRefBytes (w .target))) s at = splice-at l at (wireBytes w) (omega arith) in
+    let all : Stands ((2 ∷ []) ++ (portRefBytes (w .source) ++ portRefBytes (w .target))) s at = rw (wrote .wrote) (splice-at l at (wireBytes w) (omega arith)) in
     let both : Stands (portRefBytes (w .source) ++ portRefBytes (w .target)) s (at + 1) = right (2 ∷ []) (portRefBytes (w .source) ++ portRefBytes (w .target)) s at all (at + 1) refl in
     let source : Stands (portRefBytes (w .source)) s (at + 1) = left (portRefBytes (w .source)) (portRefBytes (w .target)) s (at + 1) both in
     let target : Stands (portRefBytes (w .target)) s (at + 4) = right (portRefBytes (w .source)) (portRefBytes (w .target)) s (at + 1) both (at + 4) (omega (arith, length-append (bytesOf 2 (w .source .«node_id»)) (w .source .port ∷ []), bytes-length 2 (w .source .«node_id»))) in

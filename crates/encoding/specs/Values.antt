@@ -1,6 +1,7 @@
 -- Document 01, "03 Int, 04 Float: node 2, port 1, value 8; 05 Bool: node 2, port 1, 0 or 1; 06 Vector, 07 Rotator: .. three floats of 8;
 -- 08 Quat, 09 Color: .. four floats of 8", "Ints in two's complement, floats as their IEEE 754 bits".
 use Prim.Native.Nat.{ℕ, _+_, _-_}
+use mathlib.Core.Path.{_≡_}
 use mathlib.Core.Bool.{Bool as Flag, cond}
 use mathlib.Core.List.{List, [], _∷_, _++_}
 use lib.Dec.{eqb}
@@ -10,7 +11,7 @@ use Rattle.whole.specs.Bits.{toBits, fromBits}
 use Rattle.ir.specs.Kinds.{bodyOf}
 use Rattle.value.specs.declared.Value.{Value}
 use Rattle.value.specs.declared.Value.the-variants.{Int, Float, Bool, Vector, Rotator, Quat, Color}
-use Rattle.encoding.specs.Numbers.{byte, u64At, bytesOf}
+use Rattle.encoding.specs.Numbers.{byte, u16At, u64At, bytesOf}
 
 -- the bytes of a property's value: those past its node and port
 abbrev pub valueSize : ℕ → ℕ
@@ -77,3 +78,10 @@ headBytes kind node = kind ∷ bytesOf 2 node
 
 abbrev pub propertyBytes : ℕ → ℕ → Value → List ℕ
 propertyBytes node port v = headBytes (kindOf v) node ++ (port ∷ valueBytes v)
+
+-- "node 2, port 1, value 8": what is read of the record of a property
+pub record PropertyBack (node port : ℕ) (v : Value) (s : List ℕ) (at : ℕ) : Type 0 where
+  pub kind : byte s at ≡ kindOf v
+  pub node-id : u16At s (at + 1) ≡ node
+  pub its-port : byte s (at + 3) ≡ port
+  pub value : valueAt (byte s at) s (at + 4) ≡ v

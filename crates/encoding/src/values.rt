@@ -3,11 +3,10 @@ use crate::numbers;
 use ir::kind;
 use value::Value;
 ghost use mathlib.Core.Path.{_≡_};
-ghost use mathlib.Core.List.{[], _∷_, _++_};
 ghost use Prim.Native.Nat.{_+_, _≤_, _<_};
 ghost use lib.ListN.{length};
 ghost use Rattle.encoding.specs.Numbers.{Written};
-ghost use Rattle.encoding.specs.Values.{valueSize, floatAt, compositeAt, valueAt, kindOf, floatBytes, boolByte, threeBytes, fourBytes, valueBytes, propertyBytes};
+ghost use Rattle.encoding.specs.Values.{valueSize, floatAt, compositeAt, valueAt, kindOf, floatBytes, boolByte, threeBytes, fourBytes, valueBytes, propertyBytes, PropertyBack};
 
 fn read_float(s: &[u8], at: usize) -> f64
     requires { ⌜ at + 8 ≤ length (now s) ⌝ }
@@ -125,7 +124,8 @@ fn write_four(out: &mut [u8], at: usize, x: f64, y: f64, z: f64, w: f64) -> usiz
 // The bytes of a value, without kind, node and port.
 pub fn write_bytes(out: &mut [u8], at: usize, v: Value) -> usize
     requires { ⌜ at + length (valueBytes v) ≤ length (now out) ⌝ }
-    ensures { λ r. ⌜ Written (valueBytes v) (now (out .entry)) (now (out .exit)) at r ⌝ }
+    ensures written { λ r. ⌜ Written (valueBytes v) (now (out .entry)) (now (out .exit)) at r ⌝ }
+    ensures back { λ _. ⌜ valueAt (kindOf v) (now (out .exit)) at ≡ v ⌝ }
 {
     match v {
         Value::Int(n) => {
@@ -147,7 +147,8 @@ pub fn write_bytes(out: &mut [u8], at: usize, v: Value) -> usize
 // The record of a property.
 pub fn write_value(out: &mut [u8], at: usize, node: usize, port: u8, v: Value) -> usize
     requires { ⌜ at + length (propertyBytes node port v) ≤ length (now out) ⌝ }
-    ensures { λ r. ⌜ Written (propertyBytes node port v) (now (out .entry)) (now (out .exit)) at r ⌝ }
+    ensures written { λ r. ⌜ Written (propertyBytes node port v) (now (out .entry)) (now (out .exit)) at r ⌝ }
+    ensures back { λ _. ⌜ (node < 65536 → PropertyBack node port v (now (out .exit)) at) ⌝ }
 {
     let kind = kind_of(v);
     let past_node = numbers::write_head(out, at, kind, node);

@@ -4,7 +4,7 @@ use ir::PortRef;
 use ir::Wire;
 use ir::kind;
 ghost use mathlib.Core.Path.{_≡_};
-ghost use Prim.Native.Nat.{_+_, _≤_};
+ghost use Prim.Native.Nat.{_+_, _≤_, _<_};
 ghost use lib.ListN.{length};
 ghost use Rattle.encoding.specs.Numbers.{Written};
 ghost use Rattle.encoding.specs.Wires.{wireAt, wireBytes};
@@ -30,7 +30,8 @@ pub fn read_wire(s: &[u8], at: usize) -> Wire
 
 pub fn write_wire(out: &mut [u8], at: usize, wire: Wire) -> usize
     requires { ⌜ at + 7 ≤ length (now out) ⌝ }
-    ensures { λ r. ⌜ Written (wireBytes wire) (now (out .entry)) (now (out .exit)) at r ⌝ }
+    ensures written { λ r. ⌜ Written (wireBytes wire) (now (out .entry)) (now (out .exit)) at r ⌝ }
+    ensures back { λ _. ⌜ (wire .source .«node_id» < 65536 → wire .target .«node_id» < 65536 → wireAt (now (out .exit)) at ≡ wire) ⌝ }
 {
     let source = wire.source.node_id;
     let target = wire.target.node_id;

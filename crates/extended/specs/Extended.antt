@@ -11,7 +11,7 @@ use Rattle.whole.specs.declared.OptionFloat.{OptionFloat}
 use Rattle.value.specs.declared.Value.{Value}
 use Rattle.value.specs.declared.Operand.{Operand}
 use Rattle.value.specs.declared.OptionValue.{OptionValue}
-use Rattle.conversions.specs.Conversions.{zero, asFloatOf, asIntOf, onlyIntOf, givenInt}
+use Rattle.conversions.specs.Conversions.{floatZero, asFloatOf, asIntOf, onlyIntOf, givenInt}
 
 abbrev pub int : ℤ → OptionValue
 int n = OptionValue.Some (Value.Int n)
@@ -91,12 +91,12 @@ clampOf a b c =
     onIntElse (asIntOf c) (clampFloats a b c) (λ hi.
     int (clampInt n lo hi))))
 
-abbrev pub one : Float
-one = ofBits binary64 0x3ff0_0000_0000_0000
+abbrev pub floatOne : Float
+floatOne = ofBits binary64 0x3ff0_0000_0000_0000
 
 -- "Sign, Negate, ModuloFloored, Round, Floor and Ceil read operands in that float way too. Sign gives Float 1, -1 or 0 (NaN: 0)."
 abbrev pub signFloat : Float → Float
-signFloat x = cond (lt zero x) one (cond (lt x zero) (neg one) zero)
+signFloat x = cond (lt floatZero x) floatOne (cond (lt x floatZero) (neg floatOne) floatZero)
 
 abbrev pub signOf : Operand → OptionValue
 signOf a = onFloat (asFloatOf a) (λ x. float (signFloat x))

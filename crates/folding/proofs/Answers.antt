@@ -19,9 +19,9 @@ use Rattle.model.specs.Worklist.{worklist}
 use Rattle.model.specs.Rewrite.{rewriteWires}
 use Rattle.model.specs.Answer.{each, knownBytes, fateBytes, answer}
 use Rattle.model.specs.Outcome.{endlessIndex, wireOffset, ending, counted, wires, Result, folds, refuses, measured, rewritten, answered, foldGraph}
+use Rattle.model.proofs.Each.{wires-size}
 use Rattle.state.specs.Planned.{shapeAt, shapeOf, literalOf, valued, planOf, Holds}
 use Rattle.answer.specs.Nodes.{knownRecords, literalFate, fateBy, fateRecords}
-use Rattle.emit.proofs.Fanning.{wires-size}
 use Rattle.folding.proofs.Alike.{wires-same, index-same, shape-alike}
 
 -- ---- the bytes

@@ -1,83 +1,102 @@
--- The demands follow from the result and the buffer.
-use mathlib.Core.Path.{_≡_, refl, sym, ap, ap₂, _∙_, subst}
-use mathlib.Core.Bool.{Bool, true, false, cond}
-use mathlib.Core.Option.{Option, none, some}
-use lib.Dec.{leb}
-use borrow.Author.Tests.{leb-true}
-use mathlib.Core.List.{List}
-use Prim.Native.Nat.{ℕ, _≤_}
+-- The demands follow from the result and the buffer, or hold of every graph.
+use mathlib.Core.Path.{_≡_, refl, sym, ap, ap₂, _∙_, subst, subst₂}
+use mathlib.Core.List.{List, _++_}
+use mathlib.Core.Logic.{_⊎_, inl, inr}
+use lib.Seq.{take-append-seam, drop-append-seam}
+use Prim.Native.Nat.{ℕ, _<_, _≤_}
 use native.Mathlib.Omega.{arith}
-use lib.ListN.{length, take}
-use Rattle.ir.specs.declared.Wire.{Wire}
+use native.Mathlib.Decide.{decLt}
+use lib.ListN.{length, take, drop}
 use Rattle.graph.specs.Graph.{Graph}
-use Rattle.graph.specs.Decode.{Verdict, accepted, refused, decode, graphOf}
-use Rattle.records.proofs.Laid.{wire-says, few-nodes}
-use Rattle.model.specs.Maps.{All}
+use Rattle.graph.specs.Decode.{accepted, decode, graphOf}
+use Rattle.records.proofs.Laid.{wire-says, few-nodes, bounded}
 use Rattle.model.specs.Inputs.{size}
 use Rattle.model.specs.Offer.{literals}
-use Rattle.ir.specs.Limits.{maxWires}
+use Rattle.ir.specs.Limits.{maxWires, maxAnswer}
 use Rattle.model.specs.Worklist.{after, Waiting}
 use Rattle.model.specs.Answer.{answer}
-use Rattle.model.specs.Outcome.{wireOffset, counted, ending, wires, stops, measured, answered, Result, folds, refuses, Numbers, numbersOf, outcome}
-use Rattle.model.specs.Demands.{foldOf, planOf, Refused, FirstEndless, Clean, Demand3}
+use Rattle.model.specs.Outcome.{wireOffset, Result, folds, refuses, Numbers, numbersOf, written, outcome}
+use Rattle.model.specs.Demands.{foldOf, planOf, Refused, FirstEndless}
 use Rattle.model.proofs.QueueLength.{waiting}
-use Rattle.model.proofs.Refusals.{refusals, refusal-number, folds-refuses, at-refusal, at-graph}
-use Rattle.model.proofs.Demand3.{demand3-returned}
+use Rattle.model.proofs.Order.{order, work-ends, work-pops}
+use Rattle.model.proofs.AnswerLength.{answer-size}
+use Rattle.model.proofs.Finite.{planned-finite}
+use Rattle.model.proofs.CleanWires.{rewritten-clean}
+use Rattle.model.proofs.Refusals.{refusals, refusal-number}
+use Rattle.model.proofs.Folding.{Folding, graph-of, folds-folding}
 use Rattle.model.proofs.Decoded.{refused-number}
 use Rattle.folding.specs.declared.Outcome.{Outcome}
-use Rattle.folding.specs.Entry.{numbers, Answers}
-use Rattle.folding.specs.Demands.{Refusals, EndlessAt, Accepted, OrderFree, AnswerOf, PopsOf, FinitePlan, CleanWires}
+use Rattle.folding.specs.Entry.{caseOf, numbers, Answers}
+use Rattle.folding.specs.Demands.{Refusals, EndlessAt, Accepted, OrderFree, AnswerOf, PopsOf, FinitePlan, CleanWires, TooManyWires}
 
 module _ {input before after : List ℕ} {r : Outcome} (A : Answers outcome input before after r) where
   abbrev room : ℕ
   room = length before
 
+  case-numbers : (o : Result) → numbers (caseOf o) ≡ numbersOf o
+  unfolding numbersOf
+  case-numbers (folds a k) = refl
+  case-numbers (refuses n p) = refl
+
+  pub numbers-kept : numbers r ≡ numbersOf (outcome input room)
+  numbers-kept = ap numbers (A .result) ∙ case-numbers (outcome input room)
+
+  -- ---- the buffer
+
+  pub untouched-kept : 1 ≤ numbers r .number → after ≡ before
+  unfolding numbersOf written
+  untouched-kept l = go (outcome input room) refl
+    where
+      go : (o : Result) → outcome input room ≡ o → after ≡ before
+      go (folds a k) e = absurd (omega (arith, l, ap (λ (m : Numbers). m .number) (numbers-kept ∙ ap numbersOf e)))
+      go (refuses n p) e = A .buffer ∙ ap (λ (o : Result). written o before) e
+
+  pub past-kept : drop (numbers r .length) after ≡ drop (numbers r .length) before
+  unfolding numbersOf written
+  past-kept = go (outcome input room) refl
+    where
+      go : (o : Result) → outcome input room ≡ o → drop (numbers r .length) after ≡ drop (numbers r .length) before
+      go (folds a k) e =
+          let x : numbers r .length ≡ length a = ap (λ (m : Numbers). m .length) (numbers-kept ∙ ap numbersOf e) in
+          rw x (ap (drop (length a)) (A .buffer ∙ ap (λ (o : Result). written o before) e) ∙ drop-append-seam a (drop (length a) before))
+      go (refuses n p) e = ap (drop (numbers r .length)) (A .buffer ∙ ap (λ (o : Result). written o before) e)
+
   -- ---- the length
-
-  fits-at : (a : List ℕ) (k : ℕ) (g : Graph) (o : Option (List Wire)) → answered g (foldOf g) room (ending g (planOf g) o) ≡ folds a k → length a ≤ room
-  unfolding answered ending counted measured
-  fits-at a k g none e = folds-refuses e
-  fits-at a k g (some ws) e = many (leb (length ws) maxWires) e
-    where
-      long : (x : List ℕ) (b : Bool) → leb (length x) room ≡ b → cond b (folds x (foldOf g .pops)) (refuses 10 0) ≡ folds a k → length a ≤ room
-      long x true q e = let z : x ≡ a = cc in omega (arith, leb-true (length x) room q, ap length z)
-      long x false q e = folds-refuses e
-
-      many : (b : Bool) → answered g (foldOf g) room (cond b (wires ws) (stops 10 0)) ≡ folds a k → length a ≤ room
-      many true e = long (answer (size g) (foldOf g .state) ws) _ refl e
-      many false e = folds-refuses e
-
-  fits-of : (a : List ℕ) (k : ℕ) → outcome input room ≡ folds a k → length a ≤ room
-  fits-of a k e = go (decode input) refl
-    where
-      go : (v : Verdict) → decode input ≡ v → length a ≤ room
-      go (accepted g) d = fits-at a k g _ (sym (at-graph input room g d) ∙ e)
-      go (refused n p) d = folds-refuses (sym (at-refusal input room n p d) ∙ e)
 
   pub fits-kept : numbers r .length ≤ room
   unfolding numbersOf
   fits-kept = go (outcome input room) refl
     where
       go : (o : Result) → outcome input room ≡ o → numbers r .length ≤ room
-      go (folds a k) e = omega (arith, fits-of a k e, ap (λ (m : Numbers). m .length) (A .result ∙ ap numbersOf e))
-      go (refuses n p) e = omega (arith, ap (λ (m : Numbers). m .length) (A .result ∙ ap numbersOf e))
+      go (folds a k) e = omega (arith, folds-folding input a k room e .fits, ap (λ (m : Numbers). m .length) (numbers-kept ∙ ap numbersOf e))
+      go (refuses n p) e = omega (arith, ap (λ (m : Numbers). m .length) (numbers-kept ∙ ap numbersOf e))
+
+  pub longest-kept : numbers r .length ≤ maxAnswer
+  unfolding numbersOf size
+  longest-kept = go (outcome input room) refl
+    where
+      go : (o : Result) → outcome input room ≡ o → numbers r .length ≤ maxAnswer
+      go (folds a k) e =
+          let F = folds-folding input a k room e in
+          omega (arith, answer-size (literals (graphOf input)) (graphOf input) (bounded input) (F .ws) (F .rewritten) (F .few), ap length (F .bytes), ap (λ (m : Numbers). m .length) (numbers-kept ∙ ap numbersOf e))
+      go (refuses n p) e = omega (arith, ap (λ (m : Numbers). m .length) (numbers-kept ∙ ap numbersOf e))
 
   -- ---- demand 1
 
   numbers-refuse : (n p : ℕ) → 1 ≤ n → numbers r .number ≡ n → numbers r .place ≡ p → (o : Result) → outcome input room ≡ o → outcome input room ≡ refuses n p
   unfolding numbersOf
-  numbers-refuse n p l a b (folds x k) q = absurd (omega (arith, a, ap (λ (m : Numbers). m .number) (A .result ∙ ap numbersOf q)))
+  numbers-refuse n p l a b (folds x k) q = absurd (omega (arith, a, ap (λ (m : Numbers). m .number) (numbers-kept ∙ ap numbersOf q)))
   numbers-refuse n p l a b (refuses m o) q =
-      q ∙ ap₂ refuses (sym (ap (λ (m : Numbers). m .number) (A .result ∙ ap numbersOf q)) ∙ a) (sym (ap (λ (m : Numbers). m .place) (A .result ∙ ap numbersOf q)) ∙ b)
+      q ∙ ap₂ refuses (sym (ap (λ (m : Numbers). m .number) (numbers-kept ∙ ap numbersOf q)) ∙ a) (sym (ap (λ (m : Numbers). m .place) (numbers-kept ∙ ap numbersOf q)) ∙ b)
 
   refuse-numbers : (n p : ℕ) → outcome input room ≡ refuses n p → (numbers r .number ≡ n) × (numbers r .place ≡ p)
   unfolding numbersOf
-  refuse-numbers n p q = (ap (λ (m : Numbers). m .number) (A .result ∙ ap numbersOf q), ap (λ (m : Numbers). m .place) (A .result ∙ ap numbersOf q))
+  refuse-numbers n p q = (ap (λ (m : Numbers). m .number) (numbers-kept ∙ ap numbersOf q), ap (λ (m : Numbers). m .place) (numbers-kept ∙ ap numbersOf q))
 
   given : (o : Result) → outcome input room ≡ o → numbers r .number ≤ 10
   unfolding numbersOf
-  given (folds x k) q = omega (arith, ap (λ (m : Numbers). m .number) (A .result ∙ ap numbersOf q))
-  given (refuses n p) q = omega (arith, refusal-number input room n p q, ap (λ (m : Numbers). m .number) (A .result ∙ ap numbersOf q))
+  given (folds x k) q = omega (arith, ap (λ (m : Numbers). m .number) (numbers-kept ∙ ap numbersOf q))
+  given (refuses n p) q = omega (arith, refusal-number input room n p q, ap (λ (m : Numbers). m .number) (numbers-kept ∙ ap numbersOf q))
 
   pub refusals-kept : Refusals input room (numbers r)
   refusals-kept =
@@ -86,49 +105,69 @@ module _ {input before after : List ℕ} {r : Outcome} (A : Answers outcome inpu
         given = given _ refl;
       }
 
-  graph-is : (g : Graph) → decode input ≡ accepted g → g ≡ graphOf input
-  unfolding graphOf
-  graph-is g e = rw e refl
-
   endless-of : (n p : ℕ) → n ≡ 9 → Refused input room n p → EndlessAt input p
   endless-of n p e (Refused.decoding d) = absurd (omega (arith, refused-number input n p d))
   endless-of n p e (Refused.rewriting {g = g} {i = i} d f) =
-      let z : g ≡ graphOf input = graph-is g d in
-      subst (λ (h : Graph). EndlessAt input (wireOffset h i)) (sym z)
-      (record { index = i; first = subst (λ (h : Graph). FirstEndless (planOf h) (h .wires) i) z f; stands = wire-says input i (subst (λ (h : Graph). FirstEndless (planOf h) (h .wires) i) z f .within) })
+      let z : g ≡ graphOf input = graph-of input d in
+      let first = subst (λ (h : Graph). FirstEndless (planOf h) (h .wires) i) z f in
+      subst (λ (h : Graph). EndlessAt input (wireOffset h i)) (sym z) (record { index = i; first = first; offset = refl; stands = wire-says input i (first .within) })
   endless-of n p e (Refused.writing d q l) = absurd (omega arith)
 
   pub offset-kept : numbers r .number ≡ 9 → EndlessAt input (numbers r .place)
   offset-kept e = endless-of 9 (numbers r .place) refl (refusals-kept .exactly 9 (numbers r .place) (omega arith) .0 (e, refl))
 
-  -- ---- demand 3
+  -- ---- a buffer of `maxAnswer` bytes
+
+  many-of : (n p : ℕ) → n ≡ 10 → maxAnswer ≤ room → Refused input room n p → TooManyWires (graphOf input)
+  unfolding size
+  many-of n p e m (Refused.decoding d) = absurd (omega (arith, refused-number input n p d))
+  many-of n p e m (Refused.rewriting d f) = absurd (omega arith)
+  many-of n p e m (Refused.writing {g = g} {ws = ws} d q l) = subst TooManyWires (graph-of input d) (record { wires = ws; rewritten = q; many = go l (decLt maxWires (length ws)) })
+    where
+      go : (maxWires < length ws) ⊎ (room < length (answer (size g) (foldOf g .state) ws)) → Dec (maxWires < length ws) → maxWires < length ws
+      go (inl h) k = h
+      go (inr h) (yes k) = k
+      go (inr h) (no k) = absurd (omega (arith, answer-size (literals g) g (rw (← (graph-of input d)) at (bounded input)) ws q (omega arith)))
+
+  pub enough-kept : maxAnswer ≤ room → numbers r .number ≡ 10 → TooManyWires (graphOf input)
+  enough-kept m e = many-of 10 (numbers r .place) refl m (refusals-kept .exactly 10 (numbers r .place) (omega arith) .0 (e, refl))
+
+  -- ---- an input that is accepted
+
+  -- what is returned and written is what it folds to
+  returned : (o : Result) → outcome input room ≡ o → Accepted (numbers r) → Folding input room (take (numbers r .length) after) (numbers r .pops)
+  unfolding numbersOf written
+  returned (folds a k) q h =
+      let x : length a ≡ numbers r .length = sym (ap (λ (m : Numbers). m .length) (numbers-kept ∙ ap numbersOf q)) in
+      let y : k ≡ numbers r .pops = sym (ap (λ (m : Numbers). m .pops) (numbers-kept ∙ ap numbersOf q)) in
+      let w : after ≡ a ++ drop (length a) before = A .buffer ∙ ap (λ (o : Result). written o before) q in
+      let s : a ≡ take (numbers r .length) after = rw (← x, w) (sym (take-append-seam a (drop (length a) before))) in
+      subst₂ (Folding input room) s y (folds-folding input a k room q)
+  returned (refuses n p) q h = absurd (omega (arith, h, refusal-number input room n p q .0, ap (λ (m : Numbers). m .number) (numbers-kept ∙ ap numbersOf q)))
 
   module _ (h : Accepted (numbers r)) where
-    demand : Demand3 input (take (numbers r .length) after) (numbers r .pops)
-    demand = demand3-returned input before after room (numbers r) (A .result) (A .buffer) h
+    F : Folding input room (take (numbers r .length) after) (numbers r .pops)
+    F = returned (outcome input room) refl h
 
-    same : demand .graph ≡ graphOf input
-    same = graph-is (demand .graph) (demand .read)
-
-    pub order-kept : OrderFree (graphOf input)
-    order-kept = subst OrderFree same (demand .order)
+    pub read-kept : decode input ≡ accepted (graphOf input)
+    read-kept = F .read
 
     pub answer-kept : AnswerOf (graphOf input) (take (numbers r .length) after)
-    answer-kept = subst (λ (g : Graph). AnswerOf g (take (numbers r .length) after)) same (record { wires = demand .wires; rewritten = demand .rewrote; is = demand .bytes })
+    answer-kept = record { wires = F .ws; rewritten = F .rewritten; is = F .bytes }
 
     pub pops-kept : PopsOf (graphOf input) (numbers r .pops)
-    pops-kept = subst (λ (g : Graph). PopsOf g (numbers r .pops)) same (record { are = demand .popped; until = demand .ended; few = demand .few })
+    pops-kept = record { are = F .pops; until = work-ends (literals (graphOf input)) (graphOf input); few = rw (F .pops) (work-pops (literals (graphOf input)) (graphOf input)) }
 
-    pub finite-kept : FinitePlan (graphOf input)
-    finite-kept = subst FinitePlan same (demand .finite)
+-- ---- the graph of every input
 
-    clean-of : CleanWires (demand .graph)
-    clean-of ws e = let z : demand .wires ≡ ws = cc (demand .rewrote) in subst (λ (l : List Wire). All (Clean (planOf (demand .graph))) l) z (demand .clean)
+pub order-kept : (g : Graph) → OrderFree g
+order-kept g = order (literals g) g
 
-    pub clean-kept : CleanWires (graphOf input)
-    clean-kept = subst CleanWires same clean-of
+pub finite-kept : (g : Graph) → FinitePlan g
+finite-kept g = planned-finite (literals g) g
 
--- ---- the queue
+pub clean-kept : (g : Graph) → CleanWires g
+clean-kept g = rewritten-clean (planOf g) (size g) (g .wires)
 
 pub waiting-kept : (input : List ℕ) (pops : ℕ) → Waiting (graphOf input) (after (literals (graphOf input)) (graphOf input) pops)
 unfolding size

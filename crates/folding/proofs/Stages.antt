@@ -3,9 +3,9 @@ use mathlib.Core.Path.{_≡_, refl, sym, ap, ap₂, _∙_, subst, subst₂}
 use mathlib.Core.Bool.{Bool, true, false, cond}
 use mathlib.Core.Option.{some}
 use mathlib.Core.List.{List, [], _∷_, _++_}
-use Prim.Native.Nat.{ℕ, suc, _+_, _-_, _*_, _<_, _≤_}
+use Prim.Native.Nat.{ℕ, suc, _+_, _*_, _<_, _≤_}
 use native.Mathlib.Omega.{arith}
-use lib.ListN.{length, getD, take, drop, replicate, length-append}
+use lib.ListN.{length, getD, drop, replicate, length-append}
 use Rattle.ir.specs.Limits.{maxNodes, maxWires}
 use Rattle.ir.specs.declared.Wire.{Wire}
 use Rattle.value.specs.declared.Value.{Value}
@@ -15,15 +15,15 @@ use Rattle.encoding.proofs.Splices.{written-length, written-more}
 use Rattle.graph.specs.Graph.{Graph}
 use Rattle.graph.specs.Decode.{accepted, refused, decode, graphOf}
 use Rattle.graph.specs.declared.Counts.{Counts}
-use Rattle.records.specs.Access.{wiresOf, Accepts, wiresOffset, propertiesOffset}
-use Rattle.records.proofs.Laid.{counted, bounded, wires-part}
+use Rattle.records.specs.Access.{wiresOf, Accepts, wireRecords}
+use Rattle.records.proofs.Laid.{counted, bounded}
 use Rattle.model.specs.Maps.{Map, isSome}
 use Rattle.model.specs.Inputs.{size}
 use Rattle.model.specs.Offer.{PlanAction, literals}
 use Rattle.model.specs.Answer.{each}
 use Rattle.model.specs.Rewrite.{rewriteWire, rewriteWires}
 use Rattle.model.specs.TargetCounts.{cap}
-use Rattle.model.specs.Outcome.{endlessIndex, wireOffset, Result, folds, refuses, numbersOf, written, foldGraph, byVerdict, outcome}
+use Rattle.model.specs.Outcome.{endlessIndex, wireOffset, Result, folds, refuses, written, foldGraph, byVerdict, outcome}
 use Rattle.model.specs.Worklist.{worklist}
 use Rattle.model.specs.Own.{setNothing, ownOf}
 use Rattle.model.proofs.Own.{own-zeros}
@@ -43,7 +43,7 @@ use Rattle.folding.proofs.Answers.{bytesIn, bytes-size, fold-endless, f
 
 -- a refusal leaves the buffer
 pub refuse : {fold : List ℕ → ℕ → Result} {input before : List ℕ} {n p : ℕ} → fold input (length before) ≡ refuses n p → Answers fold input before before (Outcome.Refused n p)
-unfolding numbersOf written
+unfolding written
 refuse e = record { result = rw e refl; buffer = rw e refl }
 
 at-accepted : (input : List ℕ) (room : ℕ) {g : Graph} → decode input ≡ accepted g → outcome input room ≡ foldGraph (literals g) g room
@@ -125,14 +125,14 @@ module _ {own : Map Value} {input : List ℕ} {c : Counts} {kinds words actions 
     pub folded : {before two three : List ℕ} {b r : ℕ} → length (knownRecords kinds words (size h)) + length (fateRecords kinds words actions (size h)) + 7 * count ≤ length before
         → Written (knownRecords kinds words (size h) ++ fateRecords kinds words actions (size h)) before two 0 b → Written (each wireBytes (orNil (rewriteWires (shapeOf (h .wires) actions details) (size h) (h .wires)))) two three b r
         → Answers (foldBy own) input before three (Outcome.Folded r pops)
-    unfolding numbersOf written
+    unfolding written
     folded {before} {two} {three} {b} {r} m y z =
         let T : List ℕ = each wireBytes ws in
         let z' : Written T two three b r = rw ws-is at z in
         let w = written-more y (omega (arith, m, whole)) z' in
         let e : foldGraph own (graphOf input) (length before) ≡ folds (bytesIn (size h) kinds words actions ws) (worklist own h .pops) = fold-folds own (length before) h kinds words actions details (W .finished .holds) ws (C .ends) (omega (arith, exact)) (omega (arith, m, whole)) in
         record {
-          result = rw e (ap₂ (λ (i j : ℕ). record { number = 0; place = 0; length = i; pops = j }) (w .past ∙ omega arith) (W .finished .pops-are));
+          result = rw e (ap₂ Outcome.Folded (w .past ∙ omega arith) (W .finished .pops-are));
           buffer = rw e (w .wrote ∙ splice-start before (bytesIn (size h) kinds words actions ws));
         }
 
@@ -184,7 +184,7 @@ module _ {own : Map Value} {input : List ℕ} {c : Counts} {kinds words actions 
       → Written (knownRecords kinds words (c .nodes) ++ fateRecords kinds words actions (c .nodes)) before two 0 b → Written (each wireBytes (keptWires actions vs)) two three b r
       → Answers (foldBy own) input before three (Outcome.Folded r pops)
   kept-folded {two = two} {three = three} {b = b} {r = r} e y z =
-      folded-at W tallied (omega (arith, few, few-wires)) (c .nodes) vs nodes-of f (omega (arith, K .room, few, wires-are, e)) y (subst (λ (us : List Wire). Written (each wireBytes us) two three b r) (sym stay) z)
+      folded-at W tallied (omega (arith, few, few-wires)) (c .nodes) vs nodes-of f (omega (arith, K .fits, few, wires-are, e)) y (subst (λ (us : List Wire). Written (each wireBytes us) two three b r) (sym stay) z)
 
 -- ---- what each stage needs of the one before
 
@@ -197,16 +197,9 @@ index-low p n (w ∷ ws) = go (isSome (rewriteWire p n w)) (index-low p n ws)
     go true h = omega arith
     go false h = omega arith
 
--- the part of the input where the wire records stand
-pub section-at : (input : List ℕ) (c : Counts) {from to : ℕ} → from ≡ wiresOffset c → to ≡ propertiesOffset c → take (to - from) (drop from input) ≡ take (7 * c .wires) (drop (wiresOffset c) input)
-section-at input c {from} {to} e f = let n : to - from ≡ 7 * c .wires = omega arith in rw (n, e) refl
-
-module _ (input : List ℕ) (c : Counts) {r : List ℕ} (a : Accepts input c) (e : r ≡ take (7 * c .wires) (drop (wiresOffset c) input)) where
-  pub section-wires : wiresOf r ≡ graphOf input .wires
-  section-wires = ap wiresOf e ∙ wires-part input c a
-
-  pub section-records : ((k : ℕ) → byte input k < 256) → r ≡ each wireBytes (wiresOf r)
-  section-records small = e ∙ (section-bytes input c a small ∙ ap (each wireBytes) (sym section-wires))
+-- the part of the input where the wire records stand is those records' bytes
+pub section-records : (input : List ℕ) (c : Counts) {r : List ℕ} → Accepts input c → r ≡ wireRecords input c → wiresOf r ≡ graphOf input .wires → ((k : ℕ) → byte input k < 256) → r ≡ each wireBytes (wiresOf r)
+section-records input c a e f small = e ∙ (section-bytes input c a small ∙ ap (each wireBytes) (sym f))
 
 module _ {own : Map Value} {input : List ℕ} {c : Counts} {kinds words actions details : List ℕ} {pops : ℕ} (W : Settled input own c kinds words actions details pops) {vs : List Wire} (f : vs ≡ graphOf input .wires) where
   nodes : c .nodes ≡ size (graphOf input)

@@ -1,11 +1,14 @@
 -- The demands on the entry, each of the input, the buffer afterwards and the four numbers that are returned.
-use Prim.Native.Nat.{ℕ, _+_, _≤_}
+use Prim.Native.Nat.{ℕ, _+_, _<_, _≤_}
 use mathlib.Core.Path.{_≡_}
 use mathlib.Core.Bool.{true}
 use mathlib.Core.List.{List, []}
-use mathlib.Core.Option.{some}
+use mathlib.Core.Option.{none, some}
 use mathlib.Core.Logic.{_↔_}
 use lib.ListN.{length, getD}
+use Rattle.ir.specs.Limits.{maxWires}
+use Rattle.ir.specs.Classes.{foldingOf}
+use Rattle.ir.specs.declared.Folding.{Folding}
 use Rattle.ir.specs.declared.Wire.{Wire}
 use Rattle.encoding.specs.Wires.{wireAt}
 use Rattle.value.specs.declared.Value.{Value}
@@ -14,12 +17,12 @@ use Rattle.graph.specs.Graph.{Graph}
 use Rattle.graph.specs.Decode.{graphOf}
 use Rattle.records.specs.Access.{noWire}
 use Rattle.model.specs.Maps.{All}
-use Rattle.model.specs.Inputs.{size}
+use Rattle.model.specs.Inputs.{size, nodeOf}
 use Rattle.model.specs.Offer.{BecomeLiteral, literals}
 use Rattle.model.specs.Trial.{empty, trials, Stable}
 use Rattle.model.specs.Rewrite.{rewriteWires}
 use Rattle.model.specs.Answer.{answer}
-use Rattle.model.specs.Outcome.{Numbers}
+use Rattle.model.specs.Outcome.{wireOffset, Numbers}
 use Rattle.model.specs.Demands.{foldOf, planOf, Refused, FirstEndless, Clean}
 
 -- demand 1: refused with a number and a place exactly where document 01 has that number and place for the input, and with none beyond 10
@@ -31,12 +34,13 @@ pub record Refusals (input : List ℕ) (room : ℕ) (r : Numbers) : Type 0 where
 pub record EndlessAt (input : List ℕ) (place : ℕ) : Type 0 where
   pub index : ℕ
   pub first : FirstEndless (planOf (graphOf input)) (graphOf input .wires) index
+  pub offset : place ≡ wireOffset (graphOf input) index
   pub stands : wireAt input place ≡ getD (graphOf input .wires) index noWire
 
 abbrev pub Accepted : Numbers → Type 0
 Accepted r = r .number ≡ 0
 
--- demand 3, of the graph of an accepted input.
+-- demand 3, of the graph of an input
 -- "every list of its nodes, in any order and with any repeats ..: the known values and the plan after the list are, bit for bit, those of our
 -- worklist exactly when no trial of any node would then add a known value or a plan"
 abbrev pub OrderFree : Graph → Type 0
@@ -61,3 +65,13 @@ FinitePlan g = (n : ℕ) (v : Value) → planOf g n ≡ some (BecomeLiteral v) �
 -- "no rewritten wire touches a removed node or enters a node that was made literal"
 abbrev pub CleanWires : Graph → Type 0
 CleanWires g = (ws : List Wire) → rewriteWires (planOf g) (size g) (g .wires) ≡ some ws → All (Clean (planOf g)) ws
+
+-- "A Branch is never known."
+abbrev pub BranchesUnknown : Graph → Type 0
+BranchesUnknown g = (n : ℕ) → foldingOf (nodeOf g n .class) ≡ Folding.Branch → foldOf g .state .known n ≡ none
+
+-- there are more than 4,096 rewritten wires: with a buffer of `maxAnswer` bytes, which holds every answer, the one cause of 10
+pub record TooManyWires (g : Graph) : Type 0 where
+  pub wires : List Wire
+  pub rewritten : rewriteWires (planOf g) (size g) (g .wires) ≡ some wires
+  pub many : maxWires < length wires

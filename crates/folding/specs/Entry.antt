@@ -8,7 +8,7 @@ use Rattle.graph.specs.Decode.{graphOf}
 use Rattle.graph.specs.declared.Counts.{Counts}
 use Rattle.model.specs.Inputs.{size}
 use Rattle.model.specs.Maps.{Map}
-use Rattle.model.specs.Outcome.{Numbers, Result, numbersOf, written, foldGraph}
+use Rattle.model.specs.Outcome.{Result, folds, refuses, Numbers, written, foldGraph}
 use Rattle.state.specs.Planned.{shapeOf}
 use Rattle.propagation.specs.Propagation.{Settled}
 use Rattle.answer.specs.Nodes.{knownRecords, fateRecords}
@@ -17,14 +17,19 @@ use Rattle.rewrite.specs.Tallied.{Counted}
 use Rattle.folding.specs.declared.Outcome.{Outcome}
 use Rattle.folding.specs.declared.Outcome.the-variants.{Folded, Refused}
 
+-- the case of `Outcome` for each result of document 01: Folded exactly where the input is accepted
+abbrev pub caseOf : Result → Outcome
+caseOf (folds bytes pops) = Folded (length bytes) pops
+caseOf (refuses number place) = Refused number place
+
 -- document 01's four numbers for each case. "A refusal returns its number and place, length 0, pops 0. Acceptance returns number 0, place 0."
 abbrev pub numbers : Outcome → Numbers
-numbers (Folded length pops) = record { number = 0; place = 0; length = length; pops = pops }
+numbers (Folded bytes pops) = record { number = 0; place = 0; length = bytes; pops = pops }
 numbers (Refused number place) = record { number = number; place = place; length = 0; pops = 0 }
 
 -- the outcome and the buffer are those of a fold of the input
 pub record Answers (fold : List ℕ → ℕ → Result) (input before after : List ℕ) (r : Outcome) : Type 0 where
-  pub result : numbers r ≡ numbersOf (fold input (length before))
+  pub result : r ≡ caseOf (fold input (length before))
   pub buffer : after ≡ written (fold input (length before)) before
 
 -- the fold of an accepted input, where `own` says what nodes are by themselves
@@ -48,9 +53,9 @@ pub record Rewrote (input : List ℕ) (c : Counts) (kinds words actions details 
   pub rewritable : Rewritable (graphOf input .wires) (size (graphOf input)) actions details sources targets first next
   pub counted : Counted (shapeOf (graphOf input .wires) actions details) (size (graphOf input)) (graphOf input .wires) count
 
--- neither a Select nor a Branch is planned, and a buffer of this size holds the records of the nodes and every wire of the input
-pub record Kept (input : List ℕ) (c : Counts) (kinds words actions : List ℕ) (pops size : ℕ) : Type 0 where
+-- neither a Select nor a Branch is planned, and a buffer with so much room holds the records of the nodes and every wire of the input
+pub record Kept (input : List ℕ) (c : Counts) (kinds words actions : List ℕ) (pops room : ℕ) : Type 0 where
   pub details : List ℕ
   pub worked : Worked input c kinds words actions details pops
   pub low : (m : ℕ) → m < c .nodes → getD actions m 0 ≤ 1
-  pub room : length (knownRecords kinds words (c .nodes)) + length (fateRecords kinds words actions (c .nodes)) + 7 * c .wires ≤ size
+  pub fits : length (knownRecords kinds words (c .nodes)) + length (fateRecords kinds words actions (c .nodes)) + 7 * c .wires ≤ room

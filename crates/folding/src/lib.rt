@@ -14,9 +14,9 @@ ghost use mathlib.Core.List.{List};
 ghost use Prim.Native.Nat.{ℕ, _+_, _*_, _≤_};
 ghost use lib.Dec.{leb};
 ghost use lib.ListN as ListN;
-ghost use lib.ListN.{length, getD, take};
-ghost use Rattle.ir.specs.Limits.{maxNodes, maxWires};
-ghost use Rattle.graph.specs.Decode.{graphOf};
+ghost use lib.ListN.{length, getD, take, drop};
+ghost use Rattle.ir.specs.Limits.{maxNodes, maxWires, maxAnswer};
+ghost use Rattle.graph.specs.Decode.{accepted, decode, graphOf};
 ghost use Rattle.graph.specs.Index.{Indexed};
 ghost use Rattle.records.specs.Access.{Accepts};
 ghost use Rattle.model.specs.Offer.{literals};
@@ -24,8 +24,8 @@ ghost use Rattle.model.specs.Worklist.{after, Waiting};
 ghost use Rattle.model.specs.Outcome.{numbersOf, written, outcome};
 ghost use Rattle.state.specs.Held.{isKind};
 ghost use Rattle.answer.specs.Nodes.{knownRecords, fateRecords};
-ghost use Rattle.folding.specs.Entry.{numbers, Answers, Worked, Folds, Rewrote, Kept};
-ghost use Rattle.folding.specs.Demands.{Refusals, EndlessAt, Accepted, OrderFree, AnswerOf, PopsOf, FinitePlan, CleanWires};
+ghost use Rattle.folding.specs.Entry.{caseOf, numbers, Answers, Worked, Folds, Rewrote, Kept};
+ghost use Rattle.folding.specs.Demands.{Refusals, EndlessAt, Accepted, OrderFree, AnswerOf, PopsOf, FinitePlan, CleanWires, BranchesUnknown, TooManyWires};
 
 // The answer's length and the pops, or a refusal's number and place.
 pub enum Outcome {
@@ -36,7 +36,14 @@ pub enum Outcome {
 // The numbers of the refusals that follow decoding.
 const ENDLESS: u8 = 9;
 
-const TOO_LONG: u8 = 10;
+const NO_SPACE: u8 = 10;
+
+// The outcome of an accepted input.
+fn folded(length: usize, pops: usize) -> Outcome
+    ensures { λ r. ⌜ r ≡ Outcome.Folded length pops ⌝ }
+{
+    Outcome::Folded { length, pops }
+}
 
 // Whether a buffer of so much room holds the records of the nodes and `count` wires.
 fn holds(
@@ -77,14 +84,14 @@ fn write_answer(
 {
     if limit::WIRES < count {
         return Outcome::Refused {
-            number: TOO_LONG,
+            number: NO_SPACE,
             place: 0,
         };
     }
     let nodes = counts.nodes;
     if !holds(kinds, actions, nodes, count, out.len()) {
         return Outcome::Refused {
-            number: TOO_LONG,
+            number: NO_SPACE,
             place: 0,
         };
     }
@@ -102,7 +109,7 @@ fn write_answer(
         out,
         past,
     );
-    Outcome::Folded { length, pops }
+    folded(length, pops)
 }
 
 // Question 9, then 10 and the answer.
@@ -174,12 +181,10 @@ fn write_kept(
     ensures { λ r. ⌜ ((details : List ℕ) → Folds (now (input .entry)) counts (now (kinds .entry)) (now (words .entry)) (now (actions .entry)) details pops (now (out .entry)) (now (out .exit)) r) ⌝ }
 {
     let nodes = counts.nodes;
-    let from = access::wires_offset(input, counts);
-    let to = access::properties_offset(input, counts);
-    let wires = &input[from..to];
+    let wires = access::wires(input, counts);
     let past = answer::write_nodes(kinds, words, actions, nodes, out);
-    let end = kept::write_wires(wires, nodes, actions, out, past);
-    Outcome::Folded { length: end, pops }
+    let length = kept::write_wires(wires, nodes, actions, out, past);
+    folded(length, pops)
 }
 
 // Questions 9 and 10, and the answer. Without a planned Select or Branch every wire's rewriting ends, and the wires only get fewer: they are counted
@@ -230,17 +235,24 @@ fn fold_graph(input: &[u8], counts: Counts, table: &[u16; SLOTS], out: &mut [u8]
 
 // Folds the graph that the input says. The answer is written into `out`; a refusal leaves it as it was.
 pub fn fold(input: &[u8], out: &mut [u8]) -> Outcome
-    ensures result { λ r. ⌜ numbers r ≡ numbersOf (outcome (now (input .entry)) (length (now (out .entry)))) ⌝ }
+    ensures result { λ r. ⌜ r ≡ caseOf (outcome (now (input .entry)) (length (now (out .entry)))) ⌝ }
+    ensures numbers { λ r. ⌜ numbers r ≡ numbersOf (outcome (now (input .entry)) (length (now (out .entry)))) ⌝ }
     ensures buffer { λ r. ⌜ now (out .exit) ≡ written (outcome (now (input .entry)) (length (now (out .entry)))) (now (out .entry)) ⌝ }
+    ensures untouched { λ r. ⌜ (1 ≤ numbers r .number → now (out .exit) ≡ now (out .entry)) ⌝ }
+    ensures past { λ r. ⌜ drop (numbers r .length) (now (out .exit)) ≡ drop (numbers r .length) (now (out .entry)) ⌝ }
     ensures fits { λ r. ⌜ numbers r .length ≤ length (now (out .entry)) ⌝ }
     ensures refusals { λ r. ⌜ Refusals (now (input .entry)) (length (now (out .entry))) (numbers r) ⌝ }
     ensures offset { λ r. ⌜ (numbers r .number ≡ 9 → EndlessAt (now (input .entry)) (numbers r .place)) ⌝ }
-    ensures order_free { λ r. ⌜ (Accepted (numbers r) → OrderFree (graphOf (now (input .entry)))) ⌝ }
+    ensures read { λ r. ⌜ (Accepted (numbers r) → decode (now (input .entry)) ≡ accepted (graphOf (now (input .entry)))) ⌝ }
+    ensures order_free { λ _. ⌜ OrderFree (graphOf (now (input .entry))) ⌝ }
     ensures answer { λ r. ⌜ (Accepted (numbers r) → AnswerOf (graphOf (now (input .entry))) (take (numbers r .length) (now (out .exit)))) ⌝ }
     ensures pops { λ r. ⌜ (Accepted (numbers r) → PopsOf (graphOf (now (input .entry))) (numbers r .pops)) ⌝ }
-    ensures finite { λ r. ⌜ (Accepted (numbers r) → FinitePlan (graphOf (now (input .entry)))) ⌝ }
-    ensures clean { λ r. ⌜ (Accepted (numbers r) → CleanWires (graphOf (now (input .entry)))) ⌝ }
-    ensures waiting { λ _. ⌜ ((pops : ℕ) → Waiting (graphOf (now (input .entry))) (after (literals (graphOf (now (input .entry)))) (graphOf (now (input .entry))) pops)) ⌝ }
+    ensures finite { λ _. ⌜ FinitePlan (graphOf (now (input .entry))) ⌝ }
+    ensures clean { λ _. ⌜ CleanWires (graphOf (now (input .entry))) ⌝ }
+    ensures branches { λ _. ⌜ BranchesUnknown (graphOf (now (input .entry))) ⌝ }
+    ensures longest { λ r. ⌜ numbers r .length ≤ maxAnswer ⌝ }
+    ensures enough { λ r. ⌜ (maxAnswer ≤ length (now (out .entry)) → numbers r .number ≡ 10 → TooManyWires (graphOf (now (input .entry)))) ⌝ }
+    ensures waiting { λ _. ⌜ ((k : ℕ) → Waiting (graphOf (now (input .entry))) (after (literals (graphOf (now (input .entry)))) (graphOf (now (input .entry))) k)) ⌝ }
 {
     fold_input(input, out)
 }
@@ -268,7 +280,22 @@ pub extern "C" fn mezburiko_fold(
     pops: &mut usize,
 ) -> u8
     ensures result { λ r. ⌜ record { number = r; place = now (place .exit); length = now (length .exit); pops = now (pops .exit) } ≡ numbersOf (outcome (now (input .entry)) (ListN.length (now (out .entry)))) ⌝ }
-    ensures buffer { λ r. ⌜ now (out .exit) ≡ written (outcome (now (input .entry)) (ListN.length (now (out .entry)))) (now (out .entry)) ⌝ }
+    ensures buffer { λ _. ⌜ now (out .exit) ≡ written (outcome (now (input .entry)) (ListN.length (now (out .entry)))) (now (out .entry)) ⌝ }
+    ensures untouched { λ r. ⌜ (1 ≤ r → now (out .exit) ≡ now (out .entry)) ⌝ }
+    ensures past { λ _. ⌜ drop (now (length .exit)) (now (out .exit)) ≡ drop (now (length .exit)) (now (out .entry)) ⌝ }
+    ensures fits { λ _. ⌜ now (length .exit) ≤ ListN.length (now (out .entry)) ⌝ }
+    ensures refusals { λ r. ⌜ Refusals (now (input .entry)) (ListN.length (now (out .entry))) (record { number = r; place = now (place .exit); length = now (length .exit); pops = now (pops .exit) }) ⌝ }
+    ensures offset { λ r. ⌜ (r ≡ 9 → EndlessAt (now (input .entry)) (now (place .exit))) ⌝ }
+    ensures read { λ r. ⌜ (r ≡ 0 → decode (now (input .entry)) ≡ accepted (graphOf (now (input .entry)))) ⌝ }
+    ensures order_free { λ _. ⌜ OrderFree (graphOf (now (input .entry))) ⌝ }
+    ensures answer { λ r. ⌜ (r ≡ 0 → AnswerOf (graphOf (now (input .entry))) (take (now (length .exit)) (now (out .exit)))) ⌝ }
+    ensures pops { λ r. ⌜ (r ≡ 0 → PopsOf (graphOf (now (input .entry))) (now (pops .exit))) ⌝ }
+    ensures finite { λ _. ⌜ FinitePlan (graphOf (now (input .entry))) ⌝ }
+    ensures clean { λ _. ⌜ CleanWires (graphOf (now (input .entry))) ⌝ }
+    ensures branches { λ _. ⌜ BranchesUnknown (graphOf (now (input .entry))) ⌝ }
+    ensures longest { λ _. ⌜ now (length .exit) ≤ maxAnswer ⌝ }
+    ensures enough { λ r. ⌜ (maxAnswer ≤ ListN.length (now (out .entry)) → r ≡ 10 → TooManyWires (graphOf (now (input .entry)))) ⌝ }
+    ensures waiting { λ _. ⌜ ((k : ℕ) → Waiting (graphOf (now (input .entry))) (after (literals (graphOf (now (input .entry)))) (graphOf (now (input .entry))) k)) ⌝ }
 {
     match fold(input, out) {
         Outcome::Folded {

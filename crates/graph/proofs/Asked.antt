@@ -1,12 +1,12 @@
 -- The first `no` of a list of questions, and what a record that answers each with yes tells.
 use Prim.Native.Nat.{ℕ, _+_, _≤_}
 use native.Mathlib.Omega.{arith}
-use mathlib.Core.Path.{_≡_, refl, sym, ap, _∙_}
+use mathlib.Core.Path.{_≡_, refl, sym, ap, ap₂, _∙_}
 use mathlib.Core.Bool.{Bool, true, false, cond, _&&_}
 use mathlib.Core.List.{List, [], _∷_}
 use lib.ListN.{length}
-use lib.Dec.{ltb}
-use borrow.Author.Tests.{leb-true, ltb-true, le-leb}
+use lib.Dec.{ltb, eqb}
+use borrow.Author.Tests.{leb-true, ltb-true, le-leb, eq-eqb}
 use Rattle.ir.specs.Kinds.{roleOf}
 use Rattle.ir.specs.declared.Role.{Role}
 use Rattle.ir.specs.declared.Role.the-variants.{Unlisted, Node, Wire, Property, Row, Annihilator}
@@ -117,3 +117,26 @@ next-of {kind} {size} {role} {c} {s} {at} r z w k l n f new =
           });
       inside = omega arith;
     }
+
+-- .. and back: what the code asks of it
+module _ {kind size : ℕ} {role : Role} {c : Counts} {s : List ℕ} {at : ℕ} {table : List ℕ} (r : role ≡ roleOf kind) (z : size ≡ sizeOf kind) (g : Graph) (h : Held g c s table) (n : Next kind c s at table) where
+  yes-to-all : Passed kind g s at
+  yes-to-all = passed kind g s at (n .passes g h)
+
+  here : role ≡ roleAt s at
+  here = r ∙ ap roleOf (sym (n .kind-byte))
+
+  pub next-whole : at + size ≤ length s
+  next-whole = omega (arith, yes-to-all .whole, z, ap sizeOf (n .kind-byte))
+
+  four : {a b d e : Bool} → a ≡ true → b ≡ true → d ≡ true → e ≡ true → (((a && b) && d) && e) ≡ true
+  four p q u v = rw (p, q, u, v) refl
+
+  pub next-tests : {l m f : Bool} → l ≡ isListed role s at → m ≡ hasNodes (c .nodes) role s at → f ≡ hasRoom c role → (((eqb (byte s at) kind && l) && m) && f) ≡ true
+  next-tests p q u =
+      four (eq-eqb _ _ (n .kind-byte)) (p ∙ ap (λ (o : Role). isListed o s at) here ∙ yes-to-all .listed)
+      (q ∙ ap₂ (λ (k : ℕ) (o : Role). hasNodes k o s at) (ap (λ (d : Counts). d .nodes) (h .counts)) here ∙ yes-to-all .there)
+      (u ∙ ap₂ hasRoom (h .counts) here ∙ yes-to-all .fits)
+
+  pub next-first : isFirst g role s at ≡ true
+  next-first = rw here (yes-to-all .new)

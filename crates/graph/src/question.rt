@@ -14,7 +14,7 @@ use ir::variant;
 ghost use mathlib.Core.Path.{_≡_};
 ghost use mathlib.Core.Bool.{true};
 ghost use Prim.Native.Nat.{_+_, _≤_, _<_};
-ghost use lib.ListN.{length, getD};
+ghost use lib.ListN.{length};
 ghost use Rattle.encoding.specs.Numbers.{byte, u16At};
 ghost use Rattle.ir.specs.Classes.{isAnnihilator};
 ghost use Rattle.ir.specs.Kinds.{roleOf};
@@ -214,7 +214,8 @@ pub fn is_next(
     table: &[u16; SLOTS],
 ) -> bool
     requires { ⌜ (role ≡ roleOf kind) × (size ≡ sizeOf kind) × (at ≤ length (now s)) × (counts .nodes ≤ 1024) ⌝ }
-    ensures { λ r. ⌜ (r ≡ true → Next kind counts (now (s .entry)) at (now (table .entry))) ⌝ }
+    ensures next { λ r. ⌜ (r ≡ true → Next kind counts (now (s .entry)) at (now (table .entry))) ⌝ }
+    ensures every { λ r. ⌜ ((g : Graph) → Held g counts (now (s .entry)) (now (table .entry)) → Next kind counts (now (s .entry)) at (now (table .entry)) → r ≡ true) ⌝ }
 {
     if s.len() - at < size {
         return false;

@@ -1,10 +1,10 @@
 -- The bits of a float and its value determine each other, all NaNs being one.
-use mathlib.Core.Path.{_≡_, refl, ap, _∙_, subst⁻¹}
-use mathlib.Core.Bool.{not}
+use mathlib.Core.Path.{_≡_, refl, sym, ap, _∙_, subst, subst⁻¹}
+use mathlib.Core.Bool.{Bool, false, not}
 use Prim.Native.Nat.{ℕ, _^_, _<_}
 use lib.Dec.{T}
 use lib.Ieee.{Float, nan, inf, fin, binary64, fits, isNan, ofBits, toBits}
-use lib.Ieee.Bits.{ofBits-toBits, ofBits-fits, toBits-ofBits, toBits-lt}
+use lib.Ieee.Bits.{ofBits-toBits, toBits-ofBits, toBits-lt}
 use Rattle.ieee.specs.Bits.{bitsOf}
 
 pub bits-ieee : (x : Float) → bitsOf x ≡ toBits binary64 x
@@ -19,9 +19,7 @@ bitsOf-lt x h = subst⁻¹ (λ (n : ℕ). n < 2 ^ 64) (bits-ieee x) (toBits-lt b
 pub ofBits-bitsOf : (x : Float) → T (fits binary64 x) → ofBits binary64 (bitsOf x) ≡ x
 ofBits-bitsOf x h = ap (ofBits binary64) (bits-ieee x) ∙ ofBits-toBits binary64 x h
 
--- in particular for the float of any pattern, a NaN's too
-pub ofBits-again : (n : ℕ) → ofBits binary64 (bitsOf (ofBits binary64 n)) ≡ ofBits binary64 n
-ofBits-again n = ofBits-bitsOf (ofBits binary64 n) (ofBits-fits binary64 n)
-
-pub bitsOf-ofBits : (n : ℕ) → n < 2 ^ 64 → T (not (isNan (ofBits binary64 n))) → bitsOf (ofBits binary64 n) ≡ n
-bitsOf-ofBits n h k = bits-ieee (ofBits binary64 n) ∙ toBits-ofBits binary64 n h k
+-- a float that was read and is no NaN has the bits that it was read from
+pub bitsOf-ofBits : {x : Float} (n : ℕ) → n < 2 ^ 64 → x ≡ ofBits binary64 n → isNan x ≡ false → bitsOf x ≡ n
+bitsOf-ofBits n h e k =
+    ap bitsOf e ∙ bits-ieee (ofBits binary64 n) ∙ toBits-ofBits binary64 n h (subst (λ (b : Bool). T (not b)) (sym k ∙ ap isNan e) tt)

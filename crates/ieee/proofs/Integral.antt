@@ -10,7 +10,6 @@ use lib.Pow.{pow-add, pow-pos, shl-lt}
 use lib.Ieee.{Float, nan, inf, fin, binary64, up, down, round, neg, fits}
 use lib.Ieee.Back.{round-whole}
 use lib.Ieee.Exact.{HasValue, round-exact}
-use Rattle.ieee.specs.Finite.{finiteOf}
 use Rattle.ieee.specs.Integral.{rounded, roundToIntegral}
 use Rattle.ieee.specs.declared.Direction.{Direction}
 use Rattle.ieee.specs.declared.Direction.the-variants.{TowardZero, AwayFromZero, TiesToAway}
@@ -32,10 +31,10 @@ rounded-near AwayFromZero n d D = at-most (n + (d - 1)) d (n / d) D (omega (arit
 rounded-near TiesToAway n d D = at-most (n * 2 + d) (d * 2) (n / d) (omega arith) (omega (arith, div-add-mod' n d, mod-lt n D))
 
 -- the integer n with the sign s is a binary64
-abbrev pub Exact : Bool → ℕ → Type 0
-Exact s n = HasValue (round binary64 s n 1) s n 1
+abbrev pub IsBinary64 : Bool → ℕ → Type 0
+IsBinary64 s n = HasValue (round binary64 s n 1) s n 1
 
-pub exact-integer : (s : Bool) (m k : ℕ) → T (fits binary64 (fin s m (pos k))) → Exact s (m * 2 ^ k)
+pub exact-integer : (s : Bool) (m k : ℕ) → T (fits binary64 (fin s m (pos k))) → IsBinary64 s (m * 2 ^ k)
 exact-integer s m k F =
     let d = digits s m (pos k) F in
     let shift : m * 2 ^ k * 2 ^ 1074 ≡ m * 2 ^ (k + 1074) = mul-assoc m (2 ^ k) (2 ^ 1074) ∙ ap (λ (z : ℕ). m * z) (sym (pow-add 2 k 1074)) in
@@ -44,27 +43,11 @@ exact-integer s m k F =
     (shift ∙ sym (mul-one (m * 2 ^ (k + 1074))))
 
 -- so is a binary64 rounded to an integer: the `round` in `roundToIntegral` is exact
-pub exact : (r : Direction) (s : Bool) (m : ℕ) (e : ℤ) → T (fits binary64 (fin s m e)) → Exact s (rounded r (m * up e) (down e))
-exact r s m (pos k) F = subst⁻¹ (Exact s) (rounded-integer r (m * 2 ^ k)) (exact-integer s m k F)
+pub exact : (r : Direction) (s : Bool) (m : ℕ) (e : ℤ) → T (fits binary64 (fin s m e)) → IsBinary64 s (rounded r (m * up e) (down e))
+exact r s m (pos k) F = subst⁻¹ (IsBinary64 s) (rounded-integer r (m * 2 ^ k)) (exact-integer s m k F)
 exact r s m (negsuc k) F =
     round-whole binary64 s (rounded r (m * 1) (2 ^ suc k))
     (omega (arith, rounded-near r (m * 1) (2 ^ suc k) (pow-pos (suc k)), div-le-self (m * 1) (2 ^ suc k), digits s m (negsuc k) F .0))
-
-value-finite : (x : Float) (s : Bool) (n d : ℕ) → HasValue x s n d → finiteOf x ≡ true
-unfolding finiteOf
-value-finite nan s n d v = absurd v
-value-finite (inf t) s n d v = absurd v
-value-finite (fin t m e) s n d v = refl
-
--- the result is finite exactly where the operand is
-pub integral-finite : (p q : Direction) (x : Float) → T (fits binary64 x) → finiteOf (roundToIntegral p q x) ≡ finiteOf x
-unfolding roundToIntegral finiteOf
-integral-finite p q nan F = refl
-integral-finite p q (inf s) F = refl
-integral-finite p q (fin false m e) F =
-    value-finite (round binary64 false (rounded p (m * up e) (down e)) 1) false (rounded p (m * up e) (down e)) 1 (exact p false m e F)
-integral-finite p q (fin true m e) F =
-    value-finite (round binary64 true (rounded q (m * up e) (down e)) 1) true (rounded q (m * up e) (down e)) 1 (exact q true m e F)
 
 -- negation exchanges the directions
 pub integral-neg : (p q : Direction) (x : Float) → neg (roundToIntegral p q (neg x)) ≡ roundToIntegral q p x

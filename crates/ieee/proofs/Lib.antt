@@ -1,5 +1,4 @@
 pub mod Bits
-pub mod Finite
 pub mod Integral
 mod Values
 mod Truncation

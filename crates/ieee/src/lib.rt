@@ -30,9 +30,10 @@ const DIGITS: u64 = 1024;
 // 2^52. No float of this magnitude or a larger one has a fraction.
 const NO_FRACTION: f64 = 4503599627370496.0;
 
-// The float of a bit pattern. Every NaN pattern gives the one NaN.
+// The float of a bit pattern. Every NaN pattern gives the one NaN; any other is the pattern of its float alone.
 pub fn from_bits(bits: u64) -> f64
-    ensures { λ r. ⌜ r ≡ Ieee.ofBits binary64 bits ⌝ }
+    ensures value { λ r. ⌜ r ≡ Ieee.ofBits binary64 bits ⌝ }
+    ensures back { λ r. ⌜ (Ieee.isNan r ≡ false → bitsOf r ≡ bits) ⌝ }
 {
     if bits & MAGNITUDE > INFINITY {
         0.0 / 0.0

@@ -1,25 +1,25 @@
--- Variants of kinds and of inputs, rows of the table, and conditions.
+-- Variants of kinds and of inputs, and rows of the table.
 use Prim.Native.Nat.{ℕ, _≤_, _<_}
+use native.Mathlib.Omega.{arith}
 use mathlib.Core.Path.{_≡_, refl, sym, ap, _∙_}
-use mathlib.Core.Bool.{Bool, true, false, cond, _&&_, _||_, and-true, false≢true}
-use mathlib.Core.Option.{none, some}
-use mathlib.Core.List.{List, [], _∷_, map}
+use mathlib.Core.Bool.{Bool, true, false, cond, _&&_, _||_}
+use mathlib.Core.List.{List, [], _∷_}
 use lib.Arith.{lt-of-le-ne}
 use lib.Dec.{eqb, leb}
-use borrow.Author.Tests.{eqb-true, eqb-false, leb-true, lt-leb, lt-ltb, ne-eqb}
+use borrow.Author.Tests.{eqb-true, eqb-false, leb-true, le-leb, lt-leb, lt-ltb, ne-eqb}
 use Rattle.value.specs.Variants.{variantOf, inVariant}
 use Rattle.value.specs.declared.Value.{Value}
+use Rattle.value.specs.declared.Operand.{Operand}
 use Rattle.encoding.specs.Values.{valueAt, compositeAt}
-use Rattle.conversions.specs.Conversions.{truthyOf}
 use Rattle.graph.specs.Graph.{Graph}
 use Rattle.graph.specs.declared.Row.{Row}
 use Rattle.table.specs.Table.{covers as tableCovers, isRow, hasCell}
 use Rattle.model.specs.Maps.{any}
-use Rattle.model.specs.Inputs.{carried, isResolved, allResolved, operandOf}
-use Rattle.model.specs.Offer.{rowOf, sameRow, covers, resolveCondition}
+use Rattle.model.specs.Inputs.{carried, operandOf}
+use Rattle.model.specs.Offer.{rowOf, sameRow, covers}
 use Rattle.model.specs.declared.Resolved.{Resolved}
 use Rattle.state.specs.Held.{heldValue, held}
-use Rattle.inputs.specs.Inputs.{inputIf, kindVariant, variantIn}
+use Rattle.inputs.specs.Inputs.{inputIf, kindVariant}
 
 -- ---- the variant of a kind
 
@@ -71,7 +71,7 @@ pub value-at : (k : ℕ) (s : List ℕ) (i : ℕ) → variantOf (valueAt k s i) 
 unfolding valueAt compositeAt
 value-at k s i = kind-variant _ _ _ _ _ _ _ refl refl refl refl refl refl refl k
 
-pub held-some : (k a b c d : ℕ) → (k ≡ 0 → ⊥) → kindVariant k ≡ variantIn (carried (held k a b c d))
+pub held-some : (k a b c d : ℕ) → (k ≡ 0 → ⊥) → kindVariant k ≡ inVariant (operandOf (carried (held k a b c d)))
 unfolding held
 held-some k a b c d e = rw (ne-eqb k 0 e) (sym (held-value k a b c d))
 
@@ -90,60 +90,27 @@ unfolding tableCovers any
 among [] row = refl
 among (r ∷ rows) row = ap (λ (b : Bool). isRow r row || b) (among rows row)
 
-small : (v : Value) → leb (variantOf v) 7 ≡ true
-small (Value.Int n) = refl
-small (Value.Float x) = refl
-small (Value.Bool b) = refl
-small (Value.Vector x y z) = refl
-small (Value.Rotator p y r) = refl
-small (Value.Quat x y z w) = refl
-small (Value.Color r g b a) = refl
+-- t says whether the table has the row of these operands
+pub covers-row : (g : Graph) (class : ℕ) (os : List Operand) {t : Bool} → t ≡ tableCovers (g .rows) (rowOf class os) → t ≡ covers g class os
+unfolding covers
+covers-row g class os e = e ∙ among (g .rows) (rowOf class os)
 
-has-variant : (i : Resolved) → leb (variantIn i) 7 ≡ isResolved i
-has-variant Resolved.Unwired = refl
-has-variant (Resolved.Known v) = small v
-has-variant Resolved.Unresolved = refl
+few-variants : (v : Value) → variantOf v ≤ 7
+few-variants (Value.Int n) = omega arith
+few-variants (Value.Float x) = omega arith
+few-variants (Value.Bool b) = omega arith
+few-variants (Value.Vector x y z) = omega arith
+few-variants (Value.Rotator p y r) = omega arith
+few-variants (Value.Quat x y z w) = omega arith
+few-variants (Value.Color r g b a) = omega arith
 
-abbrev row : ℕ → Resolved → Resolved → Resolved → Row
-row class a b c = record { class = class; first = variantIn a; second = variantIn b; third = variantIn c }
+pub few-in : (o : Operand) → inVariant o ≤ 7
+few-in Operand.Unwired = omega arith
+few-in (Operand.Known v) = few-variants v
 
--- the row of a gate whose inputs are resolved
-module _ (g : Graph) (class : ℕ) where
-  as-operands : (a b c : Resolved) → isResolved a ≡ true → isResolved b ≡ true → isResolved c ≡ true → tableCovers (g .rows) (row class a b c) ≡ covers g class (map operandOf (a ∷ b ∷ c ∷ []))
-  unfolding covers
-  as-operands a b c p q r = rw (named a p, named b q, named c r) (among (g .rows) (rowOf class (map operandOf (a ∷ b ∷ c ∷ []))))
-    where
-      named : (i : Resolved) → isResolved i ≡ true → variantIn i ≡ inVariant (operandOf i)
-      named Resolved.Unwired e = refl
-      named (Resolved.Known v) e = refl
-      named Resolved.Unresolved e = absurd (false≢true e)
+-- a row of variants has a cell
+pub has-cell : {class x y z : ℕ} → class < 42 → x ≤ 7 → y ≤ 7 → z ≤ 7 → hasCell (record { class = class; first = x; second = y; third = z }) ≡ true
+has-cell h p q r = rw (lt-ltb _ 42 h, le-leb _ 7 p, le-leb _ 7 q, le-leb _ 7 r) refl
 
-  pub covers-same : class < 42 → (a b c : Resolved) → (hasCell (row class a b c) && tableCovers (g .rows) (row class a b c)) ≡ (allResolved (a ∷ b ∷ c ∷ []) && covers g class (map operandOf (a ∷ b ∷ c ∷ [])))
-  unfolding allResolved
-  covers-same h a b c = rw (lt-ltb class 42 h, has-variant a, has-variant b, has-variant c) (go (isResolved a) (isResolved b) (isResolved c) refl refl refl)
-    where
-      go : (x y z : Bool) → isResolved a ≡ x → isResolved b ≡ y → isResolved c ≡ z → (x && y && z && tableCovers (g .rows) (row class a b c)) ≡ ((x && (y && (z && true))) && covers g class (map operandOf (a ∷ b ∷ c ∷ [])))
-      go true true true p q r = as-operands a b c p q r
-      go true true false p q r = refl
-      go true false z p q r = refl
-      go false y z p q r = refl
-
--- ---- a condition
-
-module _ (g : Graph) (class : ℕ) (i : Resolved) {v : ℕ} (variant : v ≡ variantIn i) {t : Bool}
-    (covered : t ≡ (hasCell (record { class = class; first = v; second = 0; third = 0 }) && tableCovers (g .rows) (record { class = class; first = v; second = 0; third = 0 }))) (h : class < 42) where
-  same : t ≡ (isResolved i && covers g class (operandOf i ∷ []))
-  unfolding allResolved covers
-  same =
-      covered
-      ∙ ap (λ (x : ℕ). hasCell (record { class = class; first = x; second = 0; third = 0 }) && tableCovers (g .rows) (record { class = class; first = x; second = 0; third = 0 })) variant
-      ∙ covers-same g class h i Resolved.Unwired Resolved.Unwired
-      ∙ ap (λ (b : Bool). b && covers g class (operandOf i ∷ [])) (and-true (isResolved i))
-
-  pub condition-covered : t ≡ true → {b : Bool} → b ≡ truthyOf (operandOf i) → some b ≡ resolveCondition g class i
-  unfolding resolveCondition
-  condition-covered e f = rw (← same, e, f)
-
-  pub condition-uncovered : t ≡ false → none ≡ resolveCondition g class i
-  unfolding resolveCondition
-  condition-uncovered e = rw (← same, e)
+pub has-one : {class x : ℕ} → class < 42 → x ≤ 7 → hasCell (record { class = class; first = x; second = 0; third = 0 }) ≡ true
+has-one h p = has-cell {y = 0} {z = 0} h p (omega arith) (omega arith)

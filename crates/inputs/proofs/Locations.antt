@@ -3,8 +3,8 @@ use Prim.Native.Nat.{ℕ, _*_, _-_, _≤_, _<_}
 use native.Mathlib.Omega.{arith}
 use mathlib.Core.Path.{_≡_, refl, sym, ap, subst, _∙_}
 use mathlib.Core.Bool.{Bool, true, false, cond, _&&_, false≢true}
-use mathlib.Core.Option.{Option, some}
-use mathlib.Core.List.{List}
+use mathlib.Core.Option.{Option, none, some}
+use mathlib.Core.List.{List, [], _∷_}
 use lib.Arith.{lt-of-le-ne}
 use lib.Dec.{eqb, leb}
 use lib.ListN.{getD}
@@ -13,24 +13,21 @@ use Rattle.ir.specs.Limits.{maxNodes}
 use Rattle.whole.specs.Bits.{fromBits}
 use Rattle.value.specs.declared.Value.{Value}
 use Rattle.value.specs.declared.Operand.{Operand}
-use Rattle.conversions.specs.Conversions.{mathInOf}
+use Rattle.conversions.specs.Conversions.{truthyOf, mathInOf}
 use Rattle.conversions.specs.declared.MathIn.{MathIn}
 use Rattle.encoding.specs.Values.{valueAt}
-use Rattle.graph.specs.declared.Row.{Row}
+use Rattle.graph.specs.Graph.{Graph}
 use Rattle.graph.proofs.Roles.{and-left}
-use Rattle.table.specs.Table.{covers, hasCell}
-use Rattle.table.proofs.Search.{Listed, listed}
+use Rattle.table.specs.Table.{covers as tableCovers}
 use Rattle.model.specs.Maps.{Map}
-use Rattle.model.specs.Inputs.{carried, operandOf}
+use Rattle.model.specs.Inputs.{carried, isResolved, operandOf}
+use Rattle.model.specs.Offer.{covers, resolveCondition}
 use Rattle.model.specs.declared.Resolved.{Resolved}
 use Rattle.state.specs.Held.{heldValue, held, knownOf}
-use Rattle.inputs.specs.Inputs.{kindVariant, wordAt, scalarOperand, Locates}
+use Rattle.inputs.specs.Inputs.{kindVariant, wordAt, scalarOperand, Locates, LooksUp}
 use Rattle.inputs.specs.declared.Located.{Located}
-use Rattle.inputs.proofs.Conditions.{held-some, value-at}
-
--- a row that the table has names a variant for each place
-pub row-listed : (rows : List Row) (r : Row) {t : Bool} → t ≡ (hasCell r && covers rows r) → t ≡ true → Listed r
-row-listed rows r e k = listed r (and-left (hasCell r) (covers rows r) (sym e ∙ k))
+use Rattle.inputs.specs.declared.Lookup.{Lookup}
+use Rattle.inputs.proofs.Conditions.{held-some, value-at, covers-row, few-in}
 
 -- ---- scalars
 
@@ -86,20 +83,26 @@ word-at k s i = by-word k (wordAt k s i) _ _ _ _ (λ e. rw e refl) (λ e. rw e r
 pub same-input : {i j : Resolved} {o : Option Value} {known : Map Value} {l : Located} → i ≡ j → Locates i o known l → Locates j o known l
 same-input {o = o} {known = known} {l = l} e f = subst (λ (i : Resolved). Locates i o known l) e f
 
-module _ (o : Option Value) (known : Map Value) where
-  pub unwired : Locates Resolved.Unwired o known (record { variant = 0; word = 0; wired = false; source = 0 })
-  unwired = record { variant = refl; scalar = λ h. refl; zero = λ h. refl; within = λ w. absurd (false≢true w); by-wire = λ w. absurd (false≢true w); by-property = λ w h. absurd (omega (arith, h)) }
+pub same-lookup : {i j : Resolved} {o : Option Value} {known : Map Value} {r : Lookup} → i ≡ j → LooksUp i o known r → LooksUp j o known r
+same-lookup {o = o} {known = known} {r = r} e f = subst (λ (i : Resolved). LooksUp i o known r) e f
 
-  pub unresolved : Locates Resolved.Unresolved o known (record { variant = 8; word = 0; wired = false; source = 0 })
-  unresolved =
-      record {
-        variant = refl;
-        scalar = λ h. absurd (omega (arith, h));
-        zero = λ h. refl;
-        within = λ w. absurd (false≢true w);
-        by-wire = λ w. absurd (false≢true w);
-        by-property = λ w h few. absurd (omega (arith, few));
-      }
+pub finds : {i : Resolved} {o : Option Value} {known : Map Value} {l : Located} → Locates i o known l → LooksUp i o known (Lookup.Found l)
+finds {i} {o} {known} {l} f = record { unresolved = λ e. let z : _≡_ {A = ℕ} 0 1 = cc in absurd (omega (arith, z)); found = λ m e. let z : l ≡ m = cc in subst (λ (m : Located). Locates i o known m) z f }
+
+pub finds-none : {i : Resolved} {o : Option Value} {known : Map Value} → isResolved i ≡ false → LooksUp i o known Lookup.Unresolved
+finds-none f = record { unresolved = λ e. f; found = λ l e. let z : _≡_ {A = ℕ} 0 1 = cc in absurd (omega (arith, z)) }
+
+pub unwired : (o : Option Value) (known : Map Value) → Locates Resolved.Unwired o known (record { variant = 0; word = 0; wired = false; source = 0 })
+unwired o known =
+    record {
+      resolved = refl;
+      variant = refl;
+      scalar = λ h. refl;
+      unwired = λ h. refl;
+      within = λ w. absurd (false≢true w);
+      by-wire = λ w. absurd (false≢true w);
+      by-property = λ w h. absurd (omega (arith, h));
+    }
 
 -- an input with no value
 pub unwired-operand : {i : Resolved} {o : Option Value} {known : Map Value} {l : Located} → Locates i o known l → l .variant ≡ 0 → operandOf i ≡ Operand.Unwired
@@ -110,7 +113,7 @@ pub whole-operand : {i : Resolved} {o : Option Value} {known : Map Value} {l : L
 whole-operand {l = l} f h = ap mathInOf (f .scalar (omega (arith, h))) ∙ go (eqb (l .variant) 0) refl
   where
     go : (b : Bool) → eqb (l .variant) 0 ≡ b → mathInOf (scalarOperand (l .variant) (l .word)) ≡ MathIn.I (fromBits (l .word))
-    go true e = rw (eqb-true (l .variant) 0 e, f .zero (eqb-true (l .variant) 0 e)) refl
+    go true e = rw (eqb-true (l .variant) 0 e, f .unwired (eqb-true (l .variant) 0 e)) refl
     go false e =
         let one : l .variant ≡ 1 = omega (arith, h, eqb-false (l .variant) 0 e) in
         rw one refl
@@ -119,27 +122,51 @@ pub at-property : (k : ℕ) (s : List ℕ) (i : ℕ) (known : Map Value)
     → Locates (Resolved.Known (valueAt k s i)) (some (valueAt k s i)) known (record { variant = kindVariant k; word = wordAt k s i; wired = false; source = 0 })
 at-property k s i known =
     record {
+      resolved = refl;
       variant = sym (value-at k s i);
       scalar = word-at k s i;
-      zero = λ h. absurd (has-kind k h);
+      unwired = λ h. absurd (has-kind k h);
       within = λ w. absurd (false≢true w);
       by-wire = λ w. absurd (false≢true w);
-      by-property = λ w h few. refl;
+      by-property = λ w h. refl;
     }
 
-pub unknown-source : (kinds words : List ℕ) (m : ℕ) → getD kinds m 0 ≡ 0 → (o : Option Value) → Locates (carried (knownOf kinds words m)) o (knownOf kinds words) (record { variant = 8; word = 0; wired = false; source = 0 })
+pub unknown-source : (kinds words : List ℕ) (m : ℕ) → getD kinds m 0 ≡ 0 → isResolved (carried (knownOf kinds words m)) ≡ false
 unfolding knownOf held
-unknown-source kinds words m e o = rw e (unresolved o (knownOf kinds words))
+unknown-source kinds words m e = rw e refl
 
 pub at-source : (kinds words : List ℕ) (m : ℕ) → m < maxNodes → (getD kinds m 0 ≡ 0 → ⊥) → (o : Option Value)
     → Locates (carried (knownOf kinds words m)) o (knownOf kinds words) (record { variant = kindVariant (getD kinds m 0); word = getD words (4 * m) 0; wired = true; source = m })
 unfolding knownOf held
 at-source kinds words m few e o =
     record {
+      resolved = rw (ne-eqb (getD kinds m 0) 0 e) refl;
       variant = held-some _ _ _ _ _ e;
       scalar = λ h. rw (ne-eqb (getD kinds m 0) 0 e) (held-word _ _ _ _ _ h);
-      zero = λ h. absurd (has-kind (getD kinds m 0) h);
+      unwired = λ h. absurd (has-kind (getD kinds m 0) h);
       within = λ w. few;
       by-wire = λ w. refl;
       by-property = λ w. absurd (false≢true (sym w));
     }
+
+pub few : {i : Resolved} {o : Option Value} {known : Map Value} {l : Located} → Locates i o known l → l .variant ≤ 7
+few {i} f = rw (f .variant) (few-in (operandOf i))
+
+-- ---- a condition
+
+module _ (g : Graph) (class : ℕ) {i : Resolved} {o : Option Value} {known : Map Value} {l : Located} (f : Locates i o known l) {t : Bool}
+    (covered : t ≡ tableCovers (g .rows) (record { class = class; first = l .variant; second = 0; third = 0 })) where
+  same : t ≡ covers g class (operandOf i ∷ [])
+  same = covers-row g class (operandOf i ∷ []) (rw (f .variant) at covered)
+
+  pub condition-covered : t ≡ true → {b : Bool} → b ≡ truthyOf (operandOf i) → some b ≡ resolveCondition g class i
+  unfolding resolveCondition
+  condition-covered e b = rw (f .resolved, ← same, e, b)
+
+  pub condition-uncovered : t ≡ false → none ≡ resolveCondition g class i
+  unfolding resolveCondition
+  condition-uncovered e = rw (f .resolved, ← same, e)
+
+pub condition-unresolved : (g : Graph) (class : ℕ) (i : Resolved) → isResolved i ≡ false → none ≡ resolveCondition g class i
+unfolding resolveCondition
+condition-unresolved g class i e = rw e refl

@@ -11,7 +11,7 @@ use lib.Ieee.{ofBits, binary64}
 use Rattle.whole.specs.Bits.{fromBits}
 use Rattle.value.specs.declared.Value.{Value}
 use Rattle.value.specs.declared.Operand.{Operand}
-use Rattle.value.specs.Variants.{variantOf}
+use Rattle.value.specs.Variants.{inVariant}
 use Rattle.encoding.specs.Numbers.{byte, u64At}
 use Rattle.graph.specs.Graph.{Graph}
 use Rattle.graph.specs.Decode.{graphOf}
@@ -19,11 +19,12 @@ use Rattle.graph.specs.Index.{Indexed}
 use Rattle.records.specs.Access.{wiresOf, Bounded}
 use Rattle.model.specs.Maps.{Map, keep}
 use Rattle.ir.specs.Limits.{maxNodes}
-use Rattle.model.specs.Inputs.{size, isPort, carried, operandOf, resolveInput, resolveDataInput}
+use Rattle.model.specs.Inputs.{size, isPort, carried, isResolved, operandOf, resolveInput, resolveDataInput}
 use Rattle.model.specs.declared.Resolved.{Resolved}
 use Rattle.wire_index.specs.Chains.{Feeds as Chains}
 use Rattle.state.specs.Held.{knownOf}
 use Rattle.inputs.specs.declared.Located.{Located}
+use Rattle.inputs.specs.declared.Lookup.{Lookup}
 use Rattle.inputs.specs.declared.Feeds.{Feeds}
 use Rattle.inputs.specs.declared.Feeds.the-variants.{None, One, Many}
 use Rattle.inputs.specs.declared.OptionBool.{OptionBool}
@@ -76,12 +77,6 @@ inputIf has input = cond has input Resolved.Unwired
 abbrev pub kindVariant : ℕ → ℕ
 kindVariant kind = cond (leb 3 kind && leb kind 8) (kind - 2) 7
 
--- the variant that a row names for an input; one that is Unresolved has none, and 8 says so
-abbrev pub variantIn : Resolved → ℕ
-variantIn Resolved.Unwired = 0
-variantIn (Resolved.Known v) = variantOf v
-variantIn Resolved.Unresolved = 8
-
 -- ---- where an input is found
 
 -- the word that holds a scalar property of a kind, whose bytes stand from an offset on
@@ -96,12 +91,18 @@ scalarOperand variant word =
     (cond (eqb variant 2) (Operand.Known (Value.Float (ofBits binary64 word)))
     (Operand.Known (Value.Bool (eqb word 1)))))
 
--- an input of a node, by its property there and the known values
+-- an input of a node that is resolved, by the node's property there and the known values
 pub record Locates (i : Resolved) (property : Option Value) (known : Map Value) (l : Located) : Type 0 where
-  pub variant : l .variant ≡ variantIn i
+  pub resolved : isResolved i ≡ true
+  pub variant : l .variant ≡ inVariant (operandOf i)
   pub scalar : l .variant ≤ 3 → operandOf i ≡ scalarOperand (l .variant) (l .word)
   -- of an input with no value the word is 0, as which Add to Modulo read it
-  pub zero : l .variant ≡ 0 → l .word ≡ 0
+  pub unwired : l .variant ≡ 0 → l .word ≡ 0
   pub within : l .wired ≡ true → l .source < maxNodes
   pub by-wire : l .wired ≡ true → operandOf i ≡ operandOf (carried (known (l .source)))
-  pub by-property : l .wired ≡ false → 0 < l .variant → l .variant ≤ 7 → operandOf i ≡ operandOf (carried property)
+  pub by-property : l .wired ≡ false → 0 < l .variant → operandOf i ≡ operandOf (carried property)
+
+-- what a lookup of an input finds
+pub record LooksUp (i : Resolved) (property : Option Value) (known : Map Value) (r : Lookup) : Type 0 where
+  pub unresolved : r ≡ Lookup.Unresolved → isResolved i ≡ false
+  pub found : (l : Located) → r ≡ Lookup.Found l → Locates i property known l

@@ -8,14 +8,14 @@ use ir::variant;
 use model::Resolved;
 use records::access;
 use state::WORDS;
-use table::CELLS;
+use table::Rows;
 use value::Operand;
 use value::OptionValue;
 use value::Value;
 ghost use mathlib.Core.Path.{_≡_};
 ghost use mathlib.Core.Bool.{true, false};
 ghost use mathlib.Core.Option.{Option};
-ghost use Prim.Native.Nat.{ℕ, _+_, _<_, _≤_};
+ghost use Prim.Native.Nat.{_+_, _<_, _≤_};
 ghost use lib.ListN.{length, getD};
 ghost use Rattle.ir.specs.Limits.{maxNodes, maxWires};
 ghost use Rattle.ir.specs.Ports.{valuePort};
@@ -29,7 +29,7 @@ ghost use Rattle.model.specs.Maps.{Map};
 ghost use Rattle.model.specs.Inputs.{size, optional, property, carried as carriedOf, orProperty, resolveWires, operandOf};
 ghost use Rattle.model.specs.Offer.{resolveCondition};
 ghost use Rattle.state.specs.Held.{knownOf};
-ghost use Rattle.inputs.specs.Inputs.{feedsIn, feedsOf, Wired, Inputs, portOf, inputIf, truth, kindVariant, wordAt, scalarOperand, Locates};
+ghost use Rattle.inputs.specs.Inputs.{feedsIn, feedsOf, Wired, Inputs, portOf, inputIf, truth, kindVariant, wordAt, scalarOperand, Locates, LooksUp};
 
 // The wires into a port: none, one with its number, or more.
 pub enum Feeds {
@@ -42,9 +42,6 @@ pub enum OptionBool {
     None,
     Some(bool),
 }
-
-// The variant of an Unresolved input, which no row has.
-const UNRESOLVED: u8 = 8;
 
 fn wide(x: u8) -> usize
     ensures { λ r. ⌜ (r ≡ x) × (r < 256) ⌝ }
@@ -186,12 +183,18 @@ pub struct Located {
     pub source: usize,
 }
 
+// What a lookup finds at a port.
+pub enum Lookup {
+    Unresolved,
+    Found(Located),
+}
+
 // A port with no value.
-fn nowhere(variant: u8) -> Located
-    ensures { λ r. ⌜ r ≡ record { variant = variant; word = 0; wired = false; source = 0 } ⌝ }
+fn nowhere() -> Located
+    ensures { λ r. ⌜ r ≡ record { variant = 0; word = 0; wired = false; source = 0 } ⌝ }
 {
     Located {
-        variant,
+        variant: variant::UNWIRED,
         word: 0,
         wired: false,
         source: 0,
@@ -206,7 +209,7 @@ fn locate_property(input: &[u8], table: &[u16; SLOTS], node: usize, port: u8) ->
     let i = node * port::COUNT + wide(port);
     let at = wide_number(table[i]);
     if at == 0 {
-        return nowhere(variant::UNWIRED);
+        return nowhere();
     }
     let kind = input[at];
     Located {
@@ -223,25 +226,25 @@ fn locate_source(
     kinds: &[u8; limit::NODES],
     words: &[u64; WORDS],
     wire: u16,
-) -> Located
+) -> Lookup
     requires { ⌜ (wire < length (wiresOf (now wires))) × (getD (wiresOf (now wires)) wire noWire .source .«node_id» < maxNodes) ⌝ }
-    ensures { λ r. ⌜ ((o : Option Value) → Locates (carriedOf (knownOf (now (kinds .entry)) (now (words .entry)) (getD (wiresOf (now (wires .entry))) wire noWire .source .«node_id»))) o (knownOf (now (kinds .entry)) (now (words .entry))) r) ⌝ }
+    ensures { λ r. ⌜ ((o : Option Value) → LooksUp (carriedOf (knownOf (now (kinds .entry)) (now (words .entry)) (getD (wiresOf (now (wires .entry))) wire noWire .source .«node_id»))) o (knownOf (now (kinds .entry)) (now (words .entry))) r) ⌝ }
 {
     let read = access::wire(wires, wide_number(wire));
     let source = read.source.node_id;
     let kind = kinds[source];
     if kind == state::UNKNOWN {
-        return nowhere(UNRESOLVED);
+        return Lookup::Unresolved;
     }
-    Located {
+    Lookup::Found(Located {
         variant: variant_of(kind),
         word: state::first_word(words, source),
         wired: true,
         source,
-    }
+    })
 }
 
-// What `resolve_data_input` gives of a port, located; Unwired where a gate has no such input.
+// What `resolve_data_input` gives of a port, located where it is resolved; Unwired where a gate has no such input.
 pub fn locate(
     has: bool,
     input: &[u8],
@@ -253,18 +256,18 @@ pub fn locate(
     words: &[u64; WORDS],
     node: usize,
     port: u8,
-) -> Located
+) -> Lookup
     requires { ⌜ Inputs (graphOf (now input)) (now input) (now table) (now wires) (now first) (now next) × (node < size (graphOf (now input))) × (port ≤ valuePort) ⌝ }
-    ensures { λ r. ⌜ Locates (inputIf has (portOf (now (input .entry)) (now (kinds .entry)) (now (words .entry)) node port)) (property (graphOf (now (input .entry))) node port) (knownOf (now (kinds .entry)) (now (words .entry))) r ⌝ }
+    ensures { λ r. ⌜ LooksUp (inputIf has (portOf (now (input .entry)) (now (kinds .entry)) (now (words .entry)) node port)) (property (graphOf (now (input .entry))) node port) (knownOf (now (kinds .entry)) (now (words .entry))) r ⌝ }
 {
     if has {
         match feeds_of(first, next, node, port) {
-            Feeds::None => locate_property(input, table, node, port),
+            Feeds::None => Lookup::Found(locate_property(input, table, node, port)),
             Feeds::One(wire) => locate_source(wires, kinds, words, wire),
-            Feeds::Many => nowhere(UNRESOLVED),
+            Feeds::Many => Lookup::Unresolved,
         }
     } else {
-        nowhere(variant::UNWIRED)
+        Lookup::Found(nowhere())
     }
 }
 
@@ -303,7 +306,7 @@ fn load_operand(
     port: u8,
 ) -> Operand
     requires { ⌜ (node < maxNodes) × (port ≤ valuePort) × Indexed (graphOf (now input) .properties) (now input) (now table) × (located .wired ≡ true → located .source < maxNodes) ⌝ }
-    ensures { λ r. ⌜ ((i : Resolved) → Locates i (property (graphOf (now (input .entry))) node port) (knownOf (now (kinds .entry)) (now (words .entry))) located → 0 < located .variant → located .variant ≤ 7 → r ≡ operandOf i) ⌝ }
+    ensures { λ r. ⌜ ((i : Resolved) → Locates i (property (graphOf (now (input .entry))) node port) (knownOf (now (kinds .entry)) (now (words .entry))) located → 0 < located .variant → r ≡ operandOf i) ⌝ }
 {
     if located.wired {
         return operand_of(state::load(kinds, words, located.source));
@@ -311,7 +314,7 @@ fn load_operand(
     operand_of(access::property(input, table, node, port))
 }
 
-// The operand at a port that is located and not Unresolved. A scalar is at hand.
+// The operand at a port that is located. A scalar is at hand.
 pub fn operand_at(
     located: Located,
     input: &[u8],
@@ -322,7 +325,7 @@ pub fn operand_at(
     port: u8,
 ) -> Operand
     requires { ⌜ (node < maxNodes) × (port ≤ valuePort) × Indexed (graphOf (now input) .properties) (now input) (now table) × (located .wired ≡ true → located .source < maxNodes) ⌝ }
-    ensures { λ r. ⌜ ((i : Resolved) → Locates i (property (graphOf (now (input .entry))) node port) (knownOf (now (kinds .entry)) (now (words .entry))) located → located .variant ≤ 7 → r ≡ operandOf i) ⌝ }
+    ensures { λ r. ⌜ ((i : Resolved) → Locates i (property (graphOf (now (input .entry))) node port) (knownOf (now (kinds .entry)) (now (words .entry))) located → r ≡ operandOf i) ⌝ }
 {
     if located.variant == variant::UNWIRED {
         return Operand::Unwired;
@@ -334,7 +337,7 @@ pub fn operand_at(
     operand
 }
 
-// The truth of what a port has, where it is located and not Unresolved.
+// The truth of what a port that is located has.
 fn truthy_at(
     located: Located,
     input: &[u8],
@@ -345,7 +348,7 @@ fn truthy_at(
     port: u8,
 ) -> bool
     requires { ⌜ (node < maxNodes) × (port ≤ valuePort) × Indexed (graphOf (now input) .properties) (now input) (now table) × (located .wired ≡ true → located .source < maxNodes) ⌝ }
-    ensures { λ r. ⌜ ((i : Resolved) → Locates i (property (graphOf (now (input .entry))) node port) (knownOf (now (kinds .entry)) (now (words .entry))) located → located .variant ≤ 7 → r ≡ truthyOf (operandOf i)) ⌝ }
+    ensures { λ r. ⌜ ((i : Resolved) → Locates i (property (graphOf (now (input .entry))) node port) (knownOf (now (kinds .entry)) (now (words .entry))) located → r ≡ truthyOf (operandOf i)) ⌝ }
 {
     if located.variant == variant::UNWIRED {
         return false;
@@ -358,7 +361,7 @@ pub fn resolve_condition(
     input: &[u8],
     table: &[u16; SLOTS],
     wires: &[u8],
-    rows: &[bool; CELLS],
+    rows: &Rows,
     first: &[u16; SLOTS],
     next: &[u16; limit::WIRES],
     kinds: &[u8; limit::NODES],
@@ -370,7 +373,7 @@ pub fn resolve_condition(
     requires { ⌜ Inputs (graphOf (now input)) (now input) (now table) (now wires) (now first) (now next) × Cells (graphOf (now input) .rows) (now rows) × (class < 42) × (node < size (graphOf (now input))) × (port ≤ valuePort) ⌝ }
     ensures { λ r. ⌜ truth r ≡ resolveCondition (graphOf (now (input .entry))) class (portOf (now (input .entry)) (now (kinds .entry)) (now (words .entry)) node port) ⌝ }
 {
-    let located = locate(
+    let Lookup::Found(located) = locate(
         true,
         input,
         table,
@@ -381,7 +384,9 @@ pub fn resolve_condition(
         words,
         node,
         port,
-    );
+    ) else {
+        return OptionBool::None;
+    };
     if table::covers(
         rows,
         class,

@@ -1,6 +1,7 @@
 -- Document 01, "Classes: 0 any other, never folded; 1 Literal; ..".
 use Prim.Native.Nat.{ℕ}
-use mathlib.Core.Bool.{Bool, true, false, _&&_, _||_}
+use mathlib.Core.Bool.{Bool, true, false, cond, _&&_, _||_}
+use mathlib.Core.Option.{Option, none, some}
 use mathlib.Core.List.{List, [], _∷_}
 use lib.ListN.{length, getD}
 use lib.Dec.{ltb, leb, eqb}
@@ -64,3 +65,7 @@ hasRows Ternary = true
 -- "0B annihilator: class 1: decimal 12 (a false settles it) or 13 (a true settles it)"
 abbrev pub isAnnihilator : ℕ → Bool
 isAnnihilator class = eqb class 12 || eqb class 13
+
+-- the Bool that settles a class: "a false settles it", "a true settles it"
+unfoldable pub settles : ℕ → Option Bool
+settles class = cond (eqb class 12) (some false) (cond (eqb class 13) (some true) none)

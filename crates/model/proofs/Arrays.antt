@@ -8,9 +8,9 @@ use native.Mathlib.Omega.{arith}
 use lib.ListN.{length, getD, set}
 use lib.Seq.{getD-set-same, getD-set-other, lt-length-set}
 use borrow.Author.Tests.{eqb-false}
-use Rattle.model.specs.Maps.{orElse, put}
+use Rattle.model.specs.Maps.{Map, orElse, put}
 use Rattle.model.specs.Worklist.{queuePlaces}
-use Rattle.model.specs.Arrays.{queueOf, mapOf, storeWords}
+use Rattle.model.specs.Arrays.{queueOf, storeWords}
 use Rattle.model.proofs.Maps.{Same, same?, put-here, put-there}
 
 -- ---- the queue
@@ -37,6 +37,11 @@ queue-front ps head (suc k) h =
     ap₂ (λ (a : List ℕ) (i : ℕ). a ++ (getD ps i 0 ∷ [])) (queue-front ps head k h) (omega arith)
 
 -- ---- a map
+
+-- the map of which each entry is held as a tag and four words
+unfoldable pub mapOf : {A : Type 0} → (ℕ → ℕ → ℕ → ℕ → ℕ → Option A) → List ℕ → List ℕ → Map A
+mapOf held tags words =
+    λ m. held (getD tags m 0) (getD words (4 * m) 0) (getD words (4 * m + 1) 0) (getD words (4 * m + 2) 0) (getD words (4 * m + 3) 0)
 
 words-other : (ns : List ℕ) (m a b c d j : ℕ) → j ≢ 4 * m → j ≢ 4 * m + 1 → j ≢ 4 * m + 2 → j ≢ 4 * m + 3 → getD (storeWords ns m a b c d) j 0 ≡ getD ns j 0
 unfolding storeWords

@@ -7,7 +7,7 @@ use mathlib.Core.Logic.{_⊎_, inl, inr}
 use Prim.Native.Nat.{ℕ}
 use lib.Dec.{eqb}
 use borrow.Author.Tests.{not-true}
-use Rattle.ir.specs.Classes.{foldingOf, inputPorts}
+use Rattle.ir.specs.Classes.{foldingOf, inputPorts, settles}
 use Rattle.ir.specs.Flags.{nofold}
 use Rattle.ir.specs.Ports.{inputA, inputB, bSelectB, bCond, rerInput}
 use Rattle.ir.specs.declared.Folding.{Folding}
@@ -22,7 +22,7 @@ use Rattle.graph.specs.Graph.{Graph, member}
 use Rattle.graph.proofs.Roles.{and-left, and-right}
 use Rattle.model.specs.Maps.{Map, orElse, any, All}
 use Rattle.model.specs.Inputs.{nodeOf, isPort, feeds, property, carried, resolveWires, resolveInput, orProperty, resolveDataInput, isResolved, allResolved, valueIn, operandOf}
-use Rattle.model.specs.Offer.{Offer, noOffer, valueOffer, literalOffer, covers, resolveCondition, chosenOffer, selectOffer, branchOffer, plannable, evalAt, evaluated, settles, annihilator, holdsBool, settled, gateValue, gateOffer, foldingOffer, byItself, nodeOffer, offer}
+use Rattle.model.specs.Offer.{Offer, noOffer, valueOffer, literalOffer, covers, resolveCondition, chosenOffer, selectOffer, branchOffer, plannable, evalAt, evaluated, annihilator, holdsBool, settled, gateValue, gateOffer, foldingOffer, byItself, nodeOffer, offer}
 use Rattle.model.specs.Worklist.{consumes}
 use Rattle.model.specs.declared.Resolved.{Resolved}
 use Rattle.model.proofs.Maps.{same?, Same, _≼_, _⊑_, none-some, orElse-right}

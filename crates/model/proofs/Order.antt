@@ -83,9 +83,9 @@ module _ (own : Map Value) (g : Graph) where
       go false = add-grows s n (offer own g (s .known) n)
 
   -- w gives each node what it offers
-  record Fixed (w : State) : Type 0 where
-    values : (n : ℕ) → offer own g (w .known) n .value ≼ w .known n
-    plans : (n : ℕ) → offer own g (w .known) n .plan ≼ w .plan n
+  pub record Fixed (w : State) : Type 0 where
+    pub values : (n : ℕ) → offer own g (w .known) n .value ≼ w .known n
+    pub plans : (n : ℕ) → offer own g (w .known) n .plan ≼ w .plan n
 
   offer-value : (k l : Map Value) → k ⊑ l → (n : ℕ) → offer own g k n .value ≼ offer own g l n .value
   offer-value k l h n a e = ap (λ (o : Offer). o .value) (offer-mono own g k l h n .whole a e) ∙ e
@@ -443,7 +443,7 @@ module _ (own : Map Value) (g : Graph) where
   pub work-good : Good (worklist own g .state)
   work-good = work-fair .good
 
-  work-fixed : Fixed (worklist own g .state)
+  pub work-fixed : Fixed (worklist own g .state)
   unfolding member
   work-fixed = fixed (worklist own g .state) (λ n. work-fair .calm n (rw work-ends refl))
 

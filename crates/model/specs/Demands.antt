@@ -1,22 +1,18 @@
--- Demands 1 and 3 of an input: when it is refused and with what, and what holds of one that is accepted.
-use Prim.Native.Nat.{ℕ, _+_, _<_, _≤_}
+-- When an input is refused and with what, and which wires touch neither a removed node nor a literal.
+use Prim.Native.Nat.{ℕ, _<_}
 use mathlib.Core.Path.{_≡_}
-use mathlib.Core.Bool.{true}
 use mathlib.Core.Option.{Option, none, some}
-use mathlib.Core.List.{List, []}
-use mathlib.Core.Logic.{_⊎_, _↔_}
+use mathlib.Core.List.{List}
+use mathlib.Core.Logic.{_⊎_}
 use lib.ListN.{length, getD}
 use Rattle.ir.specs.Limits.{maxWires}
 use Rattle.ir.specs.declared.Wire.{Wire}
-use Rattle.value.specs.declared.Value.{Value}
-use Rattle.semantics.specs.Finite.{finiteValue}
 use Rattle.graph.specs.Graph.{Graph}
 use Rattle.records.specs.Access.{noWire}
 use Rattle.graph.specs.Decode.{accepted, refused, decode}
-use Rattle.model.specs.Maps.{Map, All}
+use Rattle.model.specs.Maps.{Map}
 use Rattle.model.specs.Inputs.{size}
 use Rattle.model.specs.Offer.{PlanAction, BecomeLiteral, ShortCircuit, Truncate, literals}
-use Rattle.model.specs.Trial.{empty, trials, Stable}
 use Rattle.model.specs.Worklist.{Work, worklist}
 use Rattle.model.specs.Rewrite.{rewriteWires, Endless}
 use Rattle.model.specs.Answer.{answer}
@@ -47,7 +43,7 @@ pub data Refused (input : List ℕ) (room : ℕ) : ℕ → ℕ → Type 0 where
   writing : {g : Graph} {ws : List Wire} → decode input ≡ accepted g → rewriteWires (planOf g) (size g) (g .wires) ≡ some ws →
       (maxWires < length ws) ⊎ (room < length (answer (size g) (foldOf g .state) ws)) → Refused input room 10 0
 
--- ---- demand 3
+-- ---- rewritten wires
 
 -- "no rewritten wire touches a removed node or enters a node that was made literal"
 abbrev pub Removed : Option PlanAction → Type 0
@@ -66,25 +62,3 @@ pub record Clean (p : Map PlanAction) (w : Wire) : Type 0 where
   pub source-stays : Removed (p (w .source .«node_id»)) → ⊥
   pub target-stays : Removed (p (w .target .«node_id»)) → ⊥
   pub target-free : MadeLiteral (p (w .target .«node_id»)) → ⊥
-
--- of an input that is accepted with the answer a and so many pops
-pub record Demand3 (input a : List ℕ) (pops : ℕ) : Type 0 where
-  pub graph : Graph
-  pub wires : List Wire
-  -- "For every accepted graph"
-  pub read : decode input ≡ accepted graph
-  -- "and every list of its nodes, in any order and with any repeats ..: the known values and the plan after the list are, bit for bit, those of our worklist exactly when no trial
-  -- of any node would then add a known value or a plan"
-  pub order : (ns : List ℕ) → (trials (literals graph) graph empty ns ≡ foldOf graph .state) ↔ Stable (literals graph) graph (trials (literals graph) graph empty ns)
-  -- "Our answer is, byte for byte, what document 01 writes for that graph and the worklist's known values and plan"
-  pub rewrote : rewriteWires (planOf graph) (size graph) (graph .wires) ≡ some wires
-  pub bytes : a ≡ answer (size graph) (foldOf graph .state) wires
-  -- "its pops are those of the waiting-line rule", "until none waits",
-  pub popped : pops ≡ foldOf graph .pops
-  pub ended : foldOf graph .queue ≡ []
-  -- "and at most nodes plus wires"
-  pub few : pops ≤ size graph + length (graph .wires)
-  -- "each planned number is finite"
-  pub finite : (n : ℕ) (v : Value) → planOf graph n ≡ some (BecomeLiteral v) → finiteValue v ≡ true
-  -- "and no rewritten wire touches a removed node or enters a node that was made literal"
-  pub clean : All (Clean (planOf graph)) wires

@@ -5,7 +5,7 @@ use mathlib.Core.Option.{Option, none, some}
 use mathlib.Core.List.{List, [], _∷_, map}
 use lib.Dec.{eqb}
 use lib.ListN.{getD}
-use Rattle.ir.specs.Classes.{foldingOf, inputPorts}
+use Rattle.ir.specs.Classes.{foldingOf, inputPorts, settles}
 use Rattle.ir.specs.Flags.{nofold}
 use Rattle.ir.specs.Ports.{inputA, inputB, bSelectB, bCond, execOutA, execOutB, rerInput, valuePort}
 use Rattle.ir.specs.declared.Folding.{Folding}
@@ -100,10 +100,6 @@ unfoldable pub evaluated : Graph → ℕ → List Resolved → Option Value
 evaluated g c is =
     let os : List Operand = map operandOf is in
     cond (allResolved is && covers g c os) (plannable (evalAt c os)) none
-
--- "decimal 12 (a false settles it) or 13 (a true settles it)"
-unfoldable pub settles : ℕ → Option Bool
-settles c = cond (eqb c 12) (some false) (cond (eqb c 13) (some true) none)
 
 -- "where the graph has an annihilator record of the class": the Bool that settles it
 unfoldable pub annihilator : Graph → ℕ → Option Bool

@@ -1,6 +1,5 @@
 -- What an accepted input and its indexes are, and what a refused one is.
 use mathlib.Core.Path.{_≡_, refl, sym, ap, ap₂, _∙_, subst, subst₂}
-use mathlib.Core.Bool.{Bool}
 use mathlib.Core.List.{List}
 use Prim.Native.Nat.{ℕ}
 use native.Mathlib.Omega.{arith}
@@ -12,7 +11,7 @@ use Rattle.graph.specs.declared.Counts.{Counts}
 use Rattle.graph.specs.declared.Row.{Row}
 use Rattle.records.specs.Access.{Accepts, Bounded}
 use Rattle.records.proofs.Laid.{counted, bounded}
-use Rattle.table.specs.Table.{Cells}
+use Rattle.table.specs.Table.{RowTable, Cells}
 use Rattle.model.specs.Inputs.{size}
 use Rattle.resolve.specs.Reads.{Reads}
 use Rattle.propagation.specs.Propagation.{Indexes}
@@ -48,7 +47,7 @@ unfolding size
 bounded-at input c a f = subst₂ (λ (m : ℕ) (us : List Wire). Bounded us m) (sym (nodes-are input c a)) (sym f) (bounded input)
 
 -- what a trial reads of it
-pub reads-at : {input : List ℕ} {c : Counts} {table wires feedsFirst feedsNext first next : List ℕ} {rs : List Row} {rows : List Bool} → Indexes input c table wires feedsFirst feedsNext first next → rs ≡ graphOf input .rows → Cells rs rows → Reads (graphOf input) c input table wires rows feedsFirst feedsNext
+pub reads-at : {input : List ℕ} {c : Counts} {table wires feedsFirst feedsNext first next : List ℕ} {rs : List Row} {rows : RowTable} → Indexes input c table wires feedsFirst feedsNext first next → rs ≡ graphOf input .rows → Cells rs rows → Reads (graphOf input) c input table wires rows feedsFirst feedsNext
 unfolding size
 reads-at {input} {c} {rows = rows} X e h =
     record {

@@ -7,7 +7,6 @@ use graph::refusals;
 use ir::limit;
 use records::access;
 use state::WORDS;
-use table::CELLS;
 ghost use Rattle.graph.specs.Decode.{graphOf};
 ghost use Rattle.graph.specs.Index.{Indexed};
 ghost use Rattle.records.specs.Access.{Accepts};
@@ -41,7 +40,7 @@ fn run_worklist(
     requires { ⌜ Indexes (now input) counts (now table) (now wires) (now «feeds_first») (now «feeds_next») (now first) (now next) × Holds (graphOf (now input)) (now kinds) (now words) (now actions) (now details) empty ⌝ }
     ensures { λ r. ⌜ Settled (now (input .entry)) (ownOf (graphOf (now (input .entry))) (now (own .entry))) counts (now (kinds .exit)) (now (words .exit)) (now (actions .exit)) (now (details .exit)) r ⌝ }
 {
-    let mut rows = [false; CELLS];
+    let mut rows = table::NO_ROWS;
     table::index_rows(access::rows(input, counts), &mut rows);
     worklist::run(
         input,

@@ -2,7 +2,7 @@
 use Prim.Native.Nat.{ℕ, zero, suc, _+_, _-_, _*_, _/_, _≤_, _<_}
 use mathlib.Core.List.{List, []}
 use mathlib.Core.Path.{_≡_}
-use lib.ListN.{length, getD}
+use lib.ListN.{length, getD, take, drop}
 use Rattle.ir.specs.Limits.{maxNodes, maxWires}
 use Rattle.ir.specs.Ports.{valuePort}
 use Rattle.ir.specs.declared.Wire.{Wire}
@@ -66,3 +66,10 @@ annihilatorsOffset n c = n - 2 * c .annihilators
 
 abbrev pub rowsOffset : ℕ → Counts → ℕ
 rowsOffset n c = annihilatorsOffset n c - 5 * c .rows
+
+-- "the wire records are handed back as that part of the caller's input"; the row records likewise
+abbrev pub wireRecords : List ℕ → Counts → List ℕ
+wireRecords s c = take (7 * c .wires) (drop (wiresOffset c) s)
+
+abbrev pub rowRecords : List ℕ → Counts → List ℕ
+rowRecords s c = take (5 * c .rows) (drop (rowsOffset (length s) c) s)

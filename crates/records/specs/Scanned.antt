@@ -4,6 +4,8 @@ use mathlib.Core.Path.{_≡_}
 use mathlib.Core.List.{List}
 use lib.ListN.{length}
 use Rattle.ir.specs.Limits.{maxNodes}
+use Rattle.ir.specs.declared.Role.{Role}
+use Rattle.ir.specs.declared.Role.the-variants.{Unlisted, Node, Wire, Property, Row, Annihilator}
 use Rattle.graph.specs.Graph.{Graph, empty}
 use Rattle.graph.specs.Decode.{scan}
 use Rattle.graph.specs.Index.{Held}
@@ -21,3 +23,12 @@ pub record Scanned (s : List ℕ) (table : List ℕ) (c : Counts) (last at : ℕ
   pub inside : at ≤ length s
   pub enough : length s ≤ at + fuel
   pub same : scan (length s) 0 empty s 0 ≡ scan fuel last graph s at
+
+-- the roles whose records are read in runs
+abbrev pub InRuns : Role → Type 0
+InRuns Unlisted = ⊥
+InRuns Node = Unit {0}
+InRuns Wire = Unit {0}
+InRuns Property = Unit {0}
+InRuns Row = Unit {0}
+InRuns Annihilator = ⊥

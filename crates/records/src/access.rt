@@ -14,7 +14,7 @@ ghost use lib.ListN.{length, getD};
 ghost use Rattle.graph.specs.Graph.{lookup};
 ghost use Rattle.graph.specs.Decode.{graphOf};
 ghost use Rattle.graph.specs.Index.{Indexed};
-ghost use Rattle.records.specs.Access.{noNode, noWire, noRow, wiresOf, rowsOf, Accepts, wiresOffset, propertiesOffset, rowsOffset, annihilatorsOffset};
+ghost use Rattle.records.specs.Access.{noNode, noWire, noRow, wiresOf, rowsOf, Accepts, wiresOffset, propertiesOffset, rowsOffset, annihilatorsOffset, wireRecords, rowRecords};
 
 // How long the records of a node, a row and an annihilator are.
 const NODE_SIZE: usize = 3;
@@ -78,7 +78,8 @@ pub fn rows_offset(input: &[u8], counts: Counts) -> usize
 // The wire records, as that part of the input.
 pub fn wires(input: &[u8], counts: Counts) -> &[u8]
     requires { ⌜ Accepts (now input) counts ⌝ }
-    ensures { λ r. ⌜ wiresOf (now r) ≡ graphOf (now (input .entry)) .wires ⌝ }
+    ensures part { λ r. ⌜ now r ≡ wireRecords (now (input .entry)) counts ⌝ }
+    ensures wires { λ r. ⌜ wiresOf (now r) ≡ graphOf (now (input .entry)) .wires ⌝ }
 {
     let from = wires_offset(input, counts);
     let to = properties_offset(input, counts);
@@ -96,7 +97,8 @@ pub fn wire(wires: &[u8], j: usize) -> Wire
 // The row records, as that part of the input.
 pub fn rows(input: &[u8], counts: Counts) -> &[u8]
     requires { ⌜ Accepts (now input) counts ⌝ }
-    ensures { λ r. ⌜ rowsOf (now r) ≡ graphOf (now (input .entry)) .rows ⌝ }
+    ensures part { λ r. ⌜ now r ≡ rowRecords (now (input .entry)) counts ⌝ }
+    ensures rows { λ r. ⌜ rowsOf (now r) ≡ graphOf (now (input .entry)) .rows ⌝ }
 {
     let from = rows_offset(input, counts);
     let to = annihilators_offset(input, counts);

@@ -9,8 +9,9 @@ ghost use Prim.Native.Nat.{_≤_};
 ghost use lib.ListN.{length};
 ghost use Rattle.ir.specs.Kinds.{roleOf};
 ghost use Rattle.ir.specs.Limits.{maxInput};
+ghost use Rattle.graph.specs.Index.{Next};
 ghost use Rattle.graph.specs.Layout.{sizeOf};
-ghost use Rattle.records.specs.Scanned.{Scanned};
+ghost use Rattle.records.specs.Scanned.{Scanned, InRuns};
 
 // The offset past a run, and the counts with it.
 pub struct Run {
@@ -29,7 +30,8 @@ fn read_run(
     table: &mut [u16; SLOTS],
 ) -> Run
     requires { ⌜ (role ≡ roleOf kind) × (size ≡ sizeOf kind) × (length (now s) ≤ maxInput) × Scanned (now s) (now table) counts kind from ⌝ }
-    ensures { λ r. ⌜ (from ≤ r .at) × Scanned (now (s .entry)) (now (table .exit)) (r .counts) kind (r .at) ⌝ }
+    ensures scanned { λ r. ⌜ (from ≤ r .at) × Scanned (now (s .entry)) (now (table .exit)) (r .counts) kind (r .at) ⌝ }
+    ensures every { λ r. ⌜ (Next kind (r .counts) (now (s .entry)) (r .at) (now (table .exit)) → ⊥) ⌝ }
 {
     let mut more = counts;
     let mut at = from;
@@ -53,7 +55,8 @@ pub fn read_same(
     table: &mut [u16; SLOTS],
 ) -> Run
     requires { ⌜ (role ≡ roleOf kind) × (size ≡ sizeOf kind) × (length (now s) ≤ maxInput) × Scanned (now s) (now table) counts kind from ⌝ }
-    ensures { λ r. ⌜ (from ≤ r .at) × Scanned (now (s .entry)) (now (table .exit)) (r .counts) kind (r .at) ⌝ }
+    ensures scanned { λ r. ⌜ (from ≤ r .at) × Scanned (now (s .entry)) (now (table .exit)) (r .counts) kind (r .at) ⌝ }
+    ensures every { λ r. ⌜ (InRuns role → Next kind (r .counts) (now (s .entry)) (r .at) (now (table .exit)) → ⊥) ⌝ }
 {
     match role {
         Role::Unlisted => Run { at: from, counts },

@@ -1,6 +1,6 @@
 -- The value of a gate, as the model has it.
-use Prim.Native.Nat.{ℕ, _≤_, _<_}
-use mathlib.Core.Path.{_≡_, refl, sym, ap, _∙_, subst}
+use Prim.Native.Nat.{ℕ, _≤_}
+use mathlib.Core.Path.{_≡_, refl, ap, _∙_, subst}
 use mathlib.Core.Bool.{Bool, true, false, cond, _&&_, _||_}
 use mathlib.Core.Option.{Option, none, some}
 use mathlib.Core.List.{List, [], _∷_, map}
@@ -9,29 +9,32 @@ use lib.IntN.{ℤ}
 use borrow.Author.Tests.{eqb-true, leb-true}
 use types.Run.{OneOf, miss}
 use denote.Enum.Declared.{tagOf}
-use Rattle.ir.specs.Classes.{inputCount, inputPorts}
+use Rattle.ir.specs.Classes.{inputCount, inputPorts, settles}
 use Rattle.ir.specs.declared.Folding.{Folding}
+use Rattle.whole.specs.Bits.{fromBits}
 use Rattle.value.specs.declared.Value.{Value}
 use Rattle.value.specs.declared.Operand.{Operand}
 use Rattle.value.specs.declared.OptionValue.{OptionValue}
-use Rattle.conversions.specs.Conversions.{mathInOf}
 use Rattle.conversions.specs.declared.MathIn.{MathIn}
 use Rattle.semantics.specs.Eval.{evalOf}
 use Rattle.semantics.specs.Finite.{nonFiniteFloat}
 use Rattle.semantics.specs.Whole.{WholeMath}
-use Rattle.graph.specs.Graph.{Graph, member}
+use Rattle.graph.specs.Graph.{Graph, member, countsOf}
+use Rattle.graph.specs.declared.Counts.{Counts}
 use Rattle.graph.proofs.Roles.{and-left, and-right}
-use Rattle.table.specs.Table.{covers as tableCovers, hasCell, annihilatorOf}
+use Rattle.table.specs.Table.{covers as tableCovers, boolOf, settling, counted}
 use Rattle.table.specs.declared.AnnihilatorKind.{AnnihilatorKind}
 use Rattle.table.specs.declared.OptionAnnihilator.{OptionAnnihilator}
-use Rattle.model.specs.Maps.{any, orElse}
-use Rattle.model.specs.Inputs.{optional, allResolved, operandOf}
-use Rattle.model.specs.Offer.{plannable, covers, evaluated, settles, annihilator, holdsBool, settled, gateValue, literalOffer}
+use Rattle.model.specs.Maps.{Map, any, orElse}
+use Rattle.model.specs.Inputs.{optional, isResolved, allResolved, operandOf}
+use Rattle.model.specs.Offer.{plannable, covers, evaluated, annihilator, holdsBool, settled, gateValue, literalOffer}
 use Rattle.model.specs.declared.Resolved.{Resolved}
 use Rattle.model.proofs.Resolved.{the-type as resolved-type}
 use Rattle.state.specs.declared.Trial.{Trial}
-use Rattle.inputs.specs.Inputs.{variantIn}
-use Rattle.inputs.proofs.Conditions.{covers-same}
+use Rattle.inputs.specs.Inputs.{Locates}
+use Rattle.inputs.specs.declared.Located.{Located}
+use Rattle.inputs.proofs.Conditions.{covers-row}
+use Rattle.inputs.proofs.Locations.{whole-operand}
 use Rattle.resolve.specs.Gives.{gateInputs, Gives}
 use Rattle.resolve.proofs.Trials.{IsGate}
 
@@ -53,22 +56,52 @@ planned : (r : OptionValue) → ((v : Value) → r ≡ OptionValue.Some v → no
 planned OptionValue.None h = refl
 planned (OptionValue.Some v) h = rw (h v refl)
 
--- "no input Unresolved and the row in the table"
-abbrev covered : Graph → ℕ → List Resolved → Bool
-covered g class is = allResolved is && covers g class (map operandOf is)
+-- the inputs are resolved, and t says whether the table has their row
+module _ (g : Graph) (class : ℕ) {a b c : Resolved} {o p q : Option Value} {known : Map Value} {x y z : Located} (A : Locates a o known x) (B : Locates b p known y) (C : Locates c q known z)
+    {t : Bool} (e : t ≡ tableCovers (g .rows) (record { class = class; first = x .variant; second = y .variant; third = z .variant })) where
+  row : t ≡ covers g class (map operandOf (a ∷ b ∷ c ∷ []))
+  row = covers-row g class (map operandOf (a ∷ b ∷ c ∷ [])) (rw (A .variant, B .variant, C .variant) at e)
 
-module _ (g : Graph) (class : ℕ) (a b c : Resolved) {t : Bool} (e : t ≡ covered g class (a ∷ b ∷ c ∷ [])) where
+  all : allResolved (a ∷ b ∷ c ∷ []) ≡ true
+  unfolding allResolved
+  all = rw (A .resolved, B .resolved, C .resolved) refl
+
   pub not-covered : t ≡ false → none ≡ evaluated g class (a ∷ b ∷ c ∷ [])
   unfolding evaluated
-  not-covered h = rw (← e, h)
+  not-covered h = rw (all, ← row, h)
 
-  pub is-covered : t ≡ true → {x y z : Operand} → x ≡ operandOf a → y ≡ operandOf b → z ≡ operandOf c → plannable (evalOf class x y z) ≡ evaluated g class (a ∷ b ∷ c ∷ [])
+  pub is-covered : t ≡ true → {u v w : Operand} → u ≡ operandOf a → v ≡ operandOf b → w ≡ operandOf c → plannable (evalOf class u v w) ≡ evaluated g class (a ∷ b ∷ c ∷ [])
   unfolding evaluated
-  is-covered h p q r = rw (← e, h, p, q, r)
+  is-covered h k l m = rw (all, ← row, h, k, l, m)
 
   -- a and b are read as whole numbers
-  pub is-whole : t ≡ true → {m n : ℤ} {r : OptionValue} → WholeMath class m n r → mathInOf (operandOf a) ≡ MathIn.I m → mathInOf (operandOf b) ≡ MathIn.I n → optional r ≡ evaluated g class (a ∷ b ∷ c ∷ [])
-  is-whole h {r = r} w p q = planned r (w .finite) ∙ ap plannable (w .value (operandOf a) (operandOf b) (operandOf c) p q) ∙ is-covered h refl refl refl
+  pub is-whole : t ≡ true → x .variant ≤ 1 → y .variant ≤ 1 → {m n : ℤ} {r : OptionValue} → WholeMath class m n r → fromBits (x .word) ≡ m → fromBits (y .word) ≡ n → optional r ≡ evaluated g class (a ∷ b ∷ c ∷ [])
+  is-whole h k l {r = r} w i j =
+      planned r (w .finite)
+      ∙ ap plannable (w .value (operandOf a) (operandOf b) (operandOf c) (whole-operand A k ∙ ap MathIn.I i) (whole-operand B l ∙ ap MathIn.I j))
+      ∙ is-covered h refl refl refl
+
+-- an input is Unresolved
+module _ (g : Graph) (class : ℕ) (a b c : Resolved) where
+  not-all : allResolved (a ∷ b ∷ c ∷ []) ≡ false → none ≡ evaluated g class (a ∷ b ∷ c ∷ [])
+  unfolding evaluated
+  not-all e = rw e refl
+
+  second-false : (x : Bool) {y : Bool} → y ≡ false → (x && y) ≡ false
+  second-false true e = e
+  second-false false e = refl
+
+  pub first-unresolved : isResolved a ≡ false → none ≡ evaluated g class (a ∷ b ∷ c ∷ [])
+  unfolding allResolved
+  first-unresolved e = not-all (rw e refl)
+
+  pub second-unresolved : isResolved b ≡ false → none ≡ evaluated g class (a ∷ b ∷ c ∷ [])
+  unfolding allResolved
+  second-unresolved e = not-all (second-false (isResolved a) (rw e refl))
+
+  pub third-unresolved : isResolved c ≡ false → none ≡ evaluated g class (a ∷ b ∷ c ∷ [])
+  unfolding allResolved
+  third-unresolved e = not-all (second-false (isResolved a) (second-false (isResolved b) (rw e refl)))
 
 -- ---- whole numbers
 
@@ -89,14 +122,6 @@ whole-row class x y e =
       first = leb-true x 1 (and-right (leb 18 class && leb class 22) (leb x 1) abc);
       second = leb-true y 1 (and-right ((leb 18 class && leb class 22) && leb x 1) (leb y 1) e);
     }
-
--- ---- inputs
-
--- the inputs a, b and c have these variants, and t says whether the table has their row
-pub covers-inputs : (g : Graph) (class : ℕ) → class < 42 → (a b c : Resolved) {x y z : ℕ} → x ≡ variantIn a → y ≡ variantIn b → z ≡ variantIn c → {t : Bool}
-    → t ≡ (hasCell (record { class = class; first = x; second = y; third = z }) && tableCovers (g .rows) (record { class = class; first = x; second = y; third = z }))
-    → t ≡ covered g class (a ∷ b ∷ c ∷ [])
-covers-inputs g class h a b c p q r e = e ∙ rw (p, q, r) (covers-same g class h a b c)
 
 -- ---- annihilators
 
@@ -120,47 +145,30 @@ module _ (want : Bool) (a b c : Resolved) {x y z : Bool} (p : x ≡ holdsBool wa
   unfolding settled any
   settle-none e = rw (← p, ← q, ← r, ← or-first x y z, e)
 
--- the Bool that an annihilator settles a gate by
-abbrev wants : OptionAnnihilator → Option Bool
-wants OptionAnnihilator.None = none
-wants (OptionAnnihilator.Some AnnihilatorKind.AndFalse) = some false
-wants (OptionAnnihilator.Some AnnihilatorKind.OrTrue) = some true
-
-wants-same : (g : Graph) (class : ℕ) → wants (annihilatorOf (g .annihilators) class) ≡ annihilator g class
+-- what was counted of a graph is what its annihilator records say
+counted-annihilator : (g : Graph) (class : ℕ) → cond (counted (countsOf g) class) (settles class) none ≡ annihilator g class
 unfolding annihilator settles
-wants-same g class = go (eqb class 12) (eqb class 13) refl refl
+counted-annihilator g class = go (eqb class 12) (eqb class 13) refl refl
   where
-    is-12 : (m : Bool) → wants (cond m (OptionAnnihilator.Some AnnihilatorKind.AndFalse) OptionAnnihilator.None) ≡ cond m (some false) none
-    is-12 true = refl
-    is-12 false = refl
-
-    is-13 : (m : Bool) → wants (cond m (OptionAnnihilator.Some AnnihilatorKind.OrTrue) OptionAnnihilator.None) ≡ cond m (some true) none
-    is-13 true = refl
-    is-13 false = refl
-
     other : (m : Bool) → _≡_ {A = Option Bool} none (cond m none none)
     other true = refl
     other false = refl
 
-    go : (s t : Bool) → eqb class 12 ≡ s → eqb class 13 ≡ t → wants (annihilatorOf (g .annihilators) class) ≡ cond (member class (g .annihilators)) (cond (eqb class 12) (some false) (cond (eqb class 13) (some true) none)) none
-    go true t e f = rw (eqb-true class 12 e) (is-12 (member 12 (g .annihilators)))
-    go false true e f = rw (eqb-true class 13 f) (is-13 (member 13 (g .annihilators)))
+    go : (s t : Bool) → eqb class 12 ≡ s → eqb class 13 ≡ t → cond (counted (countsOf g) class) (settles class) none ≡ cond (member class (g .annihilators)) (settles class) none
+    go true t e f = rw (eqb-true class 12 e) refl
+    go false true e f = rw (eqb-true class 13 f) refl
     go false false e f = rw (e, f) (other (member class (g .annihilators)))
 
-module _ (g : Graph) (class : ℕ) (is : List Resolved) {m : OptionAnnihilator} (e : m ≡ annihilatorOf (g .annihilators) class) where
-  same : (x : OptionAnnihilator) → m ≡ x → wants x ≡ annihilator g class
-  same x h = ap wants (sym h ∙ e) ∙ wants-same g class
+module _ (g : Graph) {counts : Counts} (same : counts ≡ countsOf g) (class : ℕ) (m : OptionAnnihilator) (e : settling m ≡ cond (counted counts class) (settles class) none) where
+  says : settling m ≡ annihilator g class
+  says = e ∙ ap (λ (c : Counts). cond (counted c class) (settles class) none) same ∙ counted-annihilator g class
 
-  pub annihilator-none : m ≡ OptionAnnihilator.None → none ≡ settled (annihilator g class) is
+  pub annihilator-none : m ≡ OptionAnnihilator.None → (is : List Resolved) → none ≡ settled (annihilator g class) is
   unfolding settled
-  annihilator-none h = rw (← same OptionAnnihilator.None h)
+  annihilator-none h is = rw (← says, h) refl
 
-  module _ {k : AnnihilatorKind} (h : m ≡ OptionAnnihilator.Some k) (o : Option Value) where
-    pub and-false : k ≡ AnnihilatorKind.AndFalse → o ≡ settled (some false) is → o ≡ settled (annihilator g class) is
-    and-false l s = rw (← same (OptionAnnihilator.Some AnnihilatorKind.AndFalse) (h ∙ ap OptionAnnihilator.Some l)) s
-
-    pub or-true : k ≡ AnnihilatorKind.OrTrue → o ≡ settled (some true) is → o ≡ settled (annihilator g class) is
-    or-true l s = rw (← same (OptionAnnihilator.Some AnnihilatorKind.OrTrue) (h ∙ ap OptionAnnihilator.Some l)) s
+  pub annihilator-some : {k : AnnihilatorKind} → m ≡ OptionAnnihilator.Some k → some (boolOf k) ≡ annihilator g class
+  annihilator-some h = rw (← says, h) refl
 
 -- ---- a gate
 
@@ -174,9 +182,9 @@ module _ (g : Graph) (class : ℕ) (is : List Resolved) (o : OptionValue) (e : o
   gate-evaluated h = rw (← e, h)
 
 -- a gate that is settled by its inputs
-pub settles-inputs : (g : Graph) (n class : ℕ) (t : Trial) {a b c x y z : Resolved} → a ≡ x → b ≡ y → c ≡ z → {o : Option Value} → o ≡ settled (annihilator g class) (a ∷ b ∷ c ∷ []) → Gives g n (literalOffer o) t
+pub settles-inputs : (g : Graph) (n class : ℕ) (t : Trial) {want : Bool} → some want ≡ annihilator g class → {a b c x y z : Resolved} → a ≡ x → b ≡ y → c ≡ z → {o : Option Value} → o ≡ settled (some want) (a ∷ b ∷ c ∷ []) → Gives g n (literalOffer o) t
     → Gives g n (literalOffer (settled (annihilator g class) (x ∷ y ∷ z ∷ []))) t
-settles-inputs g n class t p q r e h = subst (λ (o : Option Value). Gives g n (literalOffer o) t) (e ∙ rw (p, q, r)) h
+settles-inputs g n class t s p q r e h = subst (λ (o : Option Value). Gives g n (literalOffer o) t) (e ∙ rw (← s, p, q, r)) h
 
 -- a gate of one, two and three inputs
 module _ (g : Graph) (n class : ℕ) (t : Trial) where

@@ -31,6 +31,7 @@ use Rattle.ir.proofs.Folding.{the-type as folding-type}
 use Rattle.model.proofs.Resolved.{the-type as resolved-type}
 use Rattle.state.specs.Trials.{offerOf, Within}
 use Rattle.state.specs.declared.Trial.{Trial}
+use Rattle.table.specs.Table.{RowTable}
 use Rattle.inputs.specs.Inputs.{feedsIn, Inputs, truth}
 use Rattle.inputs.specs.declared.Feeds.{Feeds}
 use Rattle.inputs.specs.declared.OptionBool.{OptionBool}
@@ -39,7 +40,7 @@ use Rattle.inputs.proofs.Chains.{Fan, Says}
 use Rattle.resolve.specs.Reads.{Reads}
 use Rattle.resolve.specs.Gives.{microchipOffer, Gives}
 
-pub inputs : {g : Graph} {c : Counts} {input table wires : List ℕ} {rows : List Bool} {first next : List ℕ} → Reads g c input table wires rows first next → Inputs g input table wires first next
+pub inputs : {g : Graph} {c : Counts} {input table wires : List ℕ} {rows : RowTable} {first next : List ℕ} → Reads g c input table wires rows first next → Inputs g input table wires first next
 inputs r = record { properties = r .properties; wires-part = r .wires-part; bounded = r .bounded; chains = r .feeds }
 
 -- the gates of one, two and three inputs

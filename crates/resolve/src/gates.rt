@@ -1,6 +1,7 @@
 // Gates. One of fewer than three inputs has Unwired in place of the others.
 use graph::Counts;
 use graph::SLOTS;
+use inputs::Lookup;
 use ir::class;
 use ir::limit;
 use ir::port;
@@ -9,8 +10,8 @@ use model::Resolved;
 use state::Trial;
 use state::WORDS;
 use table::AnnihilatorKind;
-use table::CELLS;
 use table::OptionAnnihilator;
+use table::Rows;
 use value::Operand;
 use value::OptionValue;
 use value::Value;
@@ -21,7 +22,7 @@ ghost use Rattle.ir.specs.Ports.{valuePort};
 ghost use mathlib.Core.Option.{some};
 ghost use Rattle.graph.specs.Graph.{Graph, countsOf};
 ghost use Rattle.graph.specs.Decode.{graphOf};
-ghost use Rattle.table.specs.Table.{Cells};
+ghost use Rattle.table.specs.Table.{Cells, boolOf};
 ghost use Rattle.semantics.specs.Eval.{evalOf};
 ghost use Rattle.semantics.specs.Finite.{nonFiniteFloat};
 ghost use Rattle.model.specs.Inputs.{size, optional};
@@ -103,7 +104,7 @@ fn evaluate(
     next: &[u16; limit::WIRES],
     kinds: &[u8; limit::NODES],
     words: &[u64; WORDS],
-    rows: &[bool; CELLS],
+    rows: &Rows,
     n: usize,
     class: u8,
     second: bool,
@@ -112,7 +113,7 @@ fn evaluate(
     requires { ⌜ Inputs (graphOf (now input)) (now input) (now table) (now wires) (now first) (now next) × (n < size (graphOf (now input))) × Cells (graphOf (now input) .rows) (now rows) × (class < 42) ⌝ }
     ensures { λ r. ⌜ optional r ≡ evaluated (graphOf (now (input .entry))) class (gateInputs (portOf (now (input .entry)) (now (kinds .entry)) (now (words .entry)) n) second third) ⌝ }
 {
-    let a = inputs::locate(
+    let Lookup::Found(a) = inputs::locate(
         true,
         input,
         table,
@@ -123,8 +124,10 @@ fn evaluate(
         words,
         n,
         port::INPUT_A,
-    );
-    let b = inputs::locate(
+    ) else {
+        return OptionValue::None;
+    };
+    let Lookup::Found(b) = inputs::locate(
         second,
         input,
         table,
@@ -135,8 +138,10 @@ fn evaluate(
         words,
         n,
         port::INPUT_B,
-    );
-    let c = inputs::locate(
+    ) else {
+        return OptionValue::None;
+    };
+    let Lookup::Found(c) = inputs::locate(
         third,
         input,
         table,
@@ -147,7 +152,9 @@ fn evaluate(
         words,
         n,
         port::THIRD_INPUT,
-    );
+    ) else {
+        return OptionValue::None;
+    };
     if table::covers(rows, class, a.variant, b.variant, c.variant) {
         // Add to Modulo of whole numbers. An input with no value is the whole number 0, and so is its word.
         if (class::MATH_ADD <= class)
@@ -212,13 +219,10 @@ fn settle(want: bool, a: Resolved, b: Resolved, c: Resolved) -> OptionValue
     OptionValue::None
 }
 
-// The Bool of the class's annihilator, where an input is known as it.
-fn annihilate(counts: Counts, class: u8, a: Resolved, b: Resolved, c: Resolved) -> OptionValue
-    ensures { λ r. ⌜ ((g : Graph) → counts ≡ countsOf g → optional r ≡ settled (annihilator g class) (a ∷ b ∷ c ∷ [])) ⌝ }
+// The Bool of an annihilator, where an input is known as it.
+fn annihilate(kind: AnnihilatorKind, a: Resolved, b: Resolved, c: Resolved) -> OptionValue
+    ensures { λ r. ⌜ optional r ≡ settled (some (boolOf kind)) (a ∷ b ∷ c ∷ []) ⌝ }
 {
-    let OptionAnnihilator::Some(kind) = table::annihilator(counts, class) else {
-        return OptionValue::None;
-    };
     match kind {
         AnnihilatorKind::AndFalse => settle(false, a, b, c),
         AnnihilatorKind::OrTrue => settle(true, a, b, c),
@@ -253,7 +257,7 @@ fn settle_gate(
     requires { ⌜ Inputs (graphOf (now input)) (now input) (now table) (now wires) (now first) (now next) × (n < size (graphOf (now input))) × (counts ≡ countsOf (graphOf (now input))) ⌝ }
     ensures { λ r. ⌜ Gives (graphOf (now (input .entry))) n (literalOffer (settled (annihilator (graphOf (now (input .entry))) class) (gateInputs (portOf (now (input .entry)) (now (kinds .entry)) (now (words .entry)) n) second third))) r ⌝ }
 {
-    let OptionAnnihilator::Some(_) = table::annihilator(counts, class) else {
+    let OptionAnnihilator::Some(kind) = table::annihilator(counts, class) else {
         return Trial::Nothing;
     };
     let a = inputs::resolve_data_input(
@@ -291,7 +295,7 @@ fn settle_gate(
         n,
         port::THIRD_INPUT,
     );
-    become_literal(annihilate(counts, class, a, b, c))
+    become_literal(annihilate(kind, a, b, c))
 }
 
 // A gate by its inputs: what it gives, or else the Bool that settles it, as literal. `second` and `third` say whether it has these inputs.
@@ -300,7 +304,7 @@ pub fn try_resolve_gate(
     counts: Counts,
     table: &[u16; SLOTS],
     wires: &[u8],
-    rows: &[bool; CELLS],
+    rows: &Rows,
     first: &[u16; SLOTS],
     next: &[u16; limit::WIRES],
     kinds: &[u8; limit::NODES],

@@ -14,7 +14,7 @@ use model::Resolved;
 use records::access;
 use state::Trial;
 use state::WORDS;
-use table::CELLS;
+use table::Rows;
 use value::OptionValue;
 use value::Value;
 ghost use mathlib.Core.Path.{_≡_};
@@ -110,7 +110,7 @@ fn try_resolve_select(
     input: &[u8],
     table: &[u16; SLOTS],
     wires: &[u8],
-    rows: &[bool; CELLS],
+    rows: &Rows,
     first: &[u16; SLOTS],
     next: &[u16; limit::WIRES],
     kinds: &[u8; limit::NODES],
@@ -150,7 +150,7 @@ fn try_resolve_branch(
     input: &[u8],
     table: &[u16; SLOTS],
     wires: &[u8],
-    rows: &[bool; CELLS],
+    rows: &Rows,
     first: &[u16; SLOTS],
     next: &[u16; limit::WIRES],
     kinds: &[u8; limit::NODES],
@@ -186,7 +186,7 @@ pub fn try_resolve(
     counts: Counts,
     table: &[u16; SLOTS],
     wires: &[u8],
-    rows: &[bool; CELLS],
+    rows: &Rows,
     first: &[u16; SLOTS],
     next: &[u16; limit::WIRES],
     own: &[u8; limit::NODES],

@@ -129,7 +129,7 @@ module _ (ws : List Wire) (actions details : List ℕ) (n : ℕ) (s : Shaped ws 
         where
           go : (member b (f .path) ≡ true) ⊎ Blocked ws actions details counts (f .path) b → (c : ℕ) × Waits ws actions details b c × (getD counts c 0 ≡ noCount)
           go (inl m) = absurd (false≢true (unfold member in rw (none-waits (f .path) (f .stacked)) at m))
-          go (inr o) = (o .by, o .waits, o .none)
+          go (inr o) = (o .by, o .waits, o .uncounted)
 
   -- there is no Branch
   pub counts-none : (counts : List ℕ) → length counts ≡ maxNodes → ((b : ℕ) → b < n → getD actions b 0 ≡ 3 → ⊥) → Counts ws n actions details counts

@@ -4,7 +4,7 @@ use native.Mathlib.Omega.{arith}
 use native.Mathlib.Decide.{ℕ-discrete, decLt}
 use mathlib.Core.Path.{_≡_, refl, sym, ap, subst, _∙_}
 use mathlib.Core.Bool.{Bool, true, false, cond, true≢false, false≢true}
-use mathlib.Core.Option.{Option, none, some}
+use mathlib.Core.Option.{Option, some}
 use mathlib.Core.List.{List, [], _∷_, _++_}
 use mathlib.Core.Logic.{_⊎_, inl, inr, ⊎-elim}
 use lib.Dec.{eqb}
@@ -215,8 +215,8 @@ module _ (ws : List Wire) (actions details next : List ℕ) where
           go : (member x (s .path) ≡ true) ⊎ Blocked ws actions details counts (s .path) x → (member x (b ∷ s .path) ≡ true) ⊎ Blocked ws actions details counts₁ (b ∷ s .path) x
           go (inl m) = inl (member-tail x b (s .path) m)
           go (inr o) =
-              let n : o .by ≡ b → ⊥ = not-b (o .by) noCount (o .none) (omega arith) in
-              inr (record { by = o .by; waits = o .waits; none = other₁ (o .by) n ∙ o .none; off = member-not (o .by) b (s .path) n (o .off) })
+              let n : o .by ≡ b → ⊥ = not-b (o .by) noCount (o .uncounted) (omega arith) in
+              inr (record { by = o .by; waits = o .waits; uncounted = other₁ (o .by) n ∙ o .uncounted; off = member-not (o .by) b (s .path) n (o .off) })
 
       pub entered : Searching ws actions details first next (set counts b noCount) (set sums b 0) (set stack depth b) (depth + 1)
       unfolding counts₁ sums₁ stack₁
@@ -274,8 +274,8 @@ module _ (ws : List Wire) (actions details next : List ℕ) where
         stuck₂ x k e = go (s .stuck x k e)
           where
             go : (member x (s .path) ≡ true) ⊎ Blocked ws actions details counts (s .path) x → (member x [] ≡ true) ⊎ Blocked ws actions details counts [] x
-            go (inl m) = let (y, w, z) = waits-on counts c n (s .path) a (s .waiting) pendings x m in inr (record { by = y; waits = w; none = z; off = refl })
-            go (inr o) = inr (record { by = o .by; waits = o .waits; none = o .none; off = refl })
+            go (inl m) = let (y, w, z) = waits-on counts c n (s .path) a (s .waiting) pendings x m in inr (record { by = y; waits = w; uncounted = z; off = refl })
+            go (inr o) = inr (record { by = o .by; waits = o .waits; uncounted = o .uncounted; off = refl })
 
     -- ---- the Branch on top of the stack
 
@@ -372,7 +372,7 @@ module _ (ws : List Wire) (actions details next : List ℕ) where
             go (inl m) = ⊎-elim (λ q. absurd (apart₃ x noCount e (omega arith) q)) (λ q. inl q) (member-cases x b bs m)
             go (inr o) =
                 let (n, m) = member-rest (o .by) b bs (o .off) in
-                inr (record { by = o .by; waits = o .waits; none = other₃ (o .by) n ∙ o .none; off = m })
+                inr (record { by = o .by; waits = o .waits; uncounted = other₃ (o .by) n ∙ o .uncounted; off = m })
 
         pub finished : Searching ws actions details first next (set counts b v) sums stack d
         unfolding counts₃

@@ -83,7 +83,7 @@ module _ (ws : List Wire) (actions details : List ℕ) where
   pub record Blocked (counts path : List ℕ) (b : ℕ) : Type 0 where
     pub by : ℕ
     pub waits : Waits b by
-    pub none : getD counts by 0 ≡ noCount
+    pub uncounted : getD counts by 0 ≡ noCount
     pub off : member by path ≡ false
 
 -- the stack, from the top down

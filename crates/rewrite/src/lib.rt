@@ -1,13 +1,13 @@
 // The rewriting of wires by the plan: where each wire's source comes to, how many unplanned targets each wire leads to, and how many wires there
 // are at the end.
 ghost use mathlib.Core.Path.{_≡_};
-ghost use mathlib.Core.Bool.{false};
+ghost use mathlib.Core.Bool.{true, false};
 ghost use Prim.Native.Nat.{ℕ, _<_, _≤_};
 ghost use lib.ListN.{getD};
 ghost use Rattle.ir.specs.Limits.{maxNodes};
 ghost use Rattle.records.specs.Access.{wiresOf, Bounded};
 ghost use Rattle.state.specs.Planned.{shapeOf, Shaped};
-ghost use Rattle.rewrite.specs.Rewritable.{Rewritable};
+ghost use Rattle.rewrite.specs.Rewritable.{HasAction, Rewritable};
 ghost use Rattle.rewrite.specs.Tallied.{Tallied};
 
 pub mod chains;
@@ -50,7 +50,8 @@ fn widen(x: u8) -> u16
 // Whether this is planned of some node.
 pub fn has_action(actions: &[u8; limit::NODES], nodes: usize, action: u8) -> bool
     requires { ⌜ nodes ≤ maxNodes ⌝ }
-    ensures { λ r. ⌜ (r ≡ false → (m : ℕ) → m < nodes → getD (now (actions .entry)) m 0 ≡ action → ⊥) ⌝ }
+    ensures nowhere { λ r. ⌜ (r ≡ false → (m : ℕ) → m < nodes → getD (now (actions .entry)) m 0 ≡ action → ⊥) ⌝ }
+    ensures somewhere { λ r. ⌜ (r ≡ true → HasAction (now (actions .entry)) nodes action) ⌝ }
 {
     let mut found = false;
     let mut node: usize = 0;

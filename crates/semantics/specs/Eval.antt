@@ -14,8 +14,8 @@ use Rattle.bitwise.specs.Bitwise.{bitwiseAndOf, bitwiseOrOf, bitwiseXorOf, bitw
 abbrev pub Rule : Type 0
 Rule = Operand → Operand → Operand → OptionValue
 
-abbrev pub none : Rule
-none a b c = OptionValue.None
+abbrev pub noGate : Rule
+noGate a b c = OptionValue.None
 
 abbrev unary : (Operand → OptionValue) → Rule
 unary f a b c = f a
@@ -26,7 +26,7 @@ binary f a b c = f a b
 -- by class, from 0. The first six are no gates
 abbrev pub rules : List Rule
 rules =
-    none ∷ none ∷ none ∷ none ∷ none ∷ none
+    noGate ∷ noGate ∷ noGate ∷ noGate ∷ noGate ∷ noGate
     ∷ binary equalOf ∷ binary notEqualOf ∷ binary lessOf ∷ binary lessOrEqualOf ∷ binary greaterOf ∷ binary greaterOrEqualOf
     ∷ binary logicalAndOf ∷ binary logicalOrOf ∷ binary logicalXorOf ∷ unary logicalNotOf ∷ binary logicalNandOf ∷ binary logicalNorOf
     ∷ binary (mathOf MathOp.Add) ∷ binary (mathOf MathOp.Subtract) ∷ binary (mathOf MathOp.Multiply) ∷ binary (mathOf MathOp.Divide) ∷ binary (mathOf MathOp.Modulo)
@@ -37,4 +37,4 @@ rules =
     ∷ []
 
 abbrev pub evalOf : ℕ → Operand → Operand → Operand → OptionValue
-evalOf class a b c = getD rules class none a b c
+evalOf class a b c = getD rules class noGate a b c

@@ -2,6 +2,7 @@
 ghost use mathlib.Core.Path.{_≡_};
 ghost use Prim.Native.Nat.{_≤_};
 ghost use Rattle.semantics.specs.Eval.{evalOf};
+ghost use Rattle.semantics.specs.Starred.{starred, AllHold};
 ghost use Rattle.semantics.specs.Whole.{WholeMath};
 use arithmetic::MathOp;
 use ir::class;
@@ -13,8 +14,8 @@ fn compare(class: u8, a: Operand, b: Operand, c: Operand) -> OptionValue
     requires { ⌜ (6 ≤ class) × (class ≤ 11) ⌝ }
     ensures { λ r. ⌜ r ≡ evalOf class a b c ⌝ }
 {
-    if class <= class::COMPARE_NOT_EQUAL {
-        return comparison::equality(class == class::COMPARE_EQUAL, a, b);
+    if class < class::COMPARE_LESS {
+        return comparison::equality(class != class::COMPARE_NOT_EQUAL, a, b);
     }
     let or_equal = (class == class::COMPARE_LESS_OR_EQUAL)
         | (class == class::COMPARE_GREATER_OR_EQUAL);
@@ -109,27 +110,28 @@ fn shifts(class: u8, a: Operand, b: Operand, c: Operand) -> OptionValue
 // The value that a gate of the class gives of the operands at its input ports, in their order; a gate of fewer inputs
 // leaves the rest aside. A class that is no gate gives none.
 pub fn eval_in(class: u8, a: Operand, b: Operand, c: Operand) -> OptionValue
-    ensures { λ r. ⌜ r ≡ evalOf class a b c ⌝ }
+    ensures rule { λ r. ⌜ r ≡ evalOf class a b c ⌝ }
+    ensures starred { λ _. ⌜ AllHold starred ⌝ }
 {
-    if class < class::MATH_ABS {
+    if class <= class::MATH_MODULO {
         if class < class::LOGICAL_AND {
             if class < class::COMPARE_EQUAL {
                 return OptionValue::None;
             }
             return compare(class, a, b, c);
         }
-        if class < class::MATH_ADD {
+        if class <= class::LOGICAL_NOR {
             return logical(class, a, b, c);
         }
         return math(class, a, b, c);
     }
     if class < class::BITWISE_AND {
-        if class < class::ROUND {
+        if class <= class::MATH_MOD_FLOORED {
             return extended_math(class, a, b, c);
         }
         return rounding(class, a, b, c);
     }
-    if class < class::BITWISE_SHIFT_LEFT {
+    if class <= class::BITWISE_NOR {
         return bitwise_logic(class, a, b, c);
     }
     if class <= class::BITWISE_BIT_COUNT {

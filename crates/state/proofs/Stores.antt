@@ -1,5 +1,5 @@
 -- The arrays hold what a trial adds.
-use Prim.Native.Nat.{ℕ, zero, suc, _≤_, _<_}
+use Prim.Native.Nat.{ℕ, zero, suc, _*_, _≤_, _<_}
 use native.Mathlib.Omega.{arith}
 use native.Mathlib.Decide.{decLt}
 use mathlib.Core.Path.{_≡_, refl, sym, ap, ap₂, _∙_, fun-ext}
@@ -11,7 +11,7 @@ use lib.Dec.{eqb}
 use lib.ListN.{length, getD, set, replicate, length-set, length-replicate, getD-replicate, List·getD-eq-default}
 use lib.Seq.{getD-set-same, getD-set-other}
 use borrow.Author.Tests.{eqb-false, eq-eqb, ne-eqb}
-use Rattle.ir.specs.Limits.{maxNodes, maxWires}
+use Rattle.ir.specs.Limits.{maxNodes}
 use Rattle.ir.specs.declared.Wire.{Wire}
 use Rattle.value.specs.declared.Value.{Value}
 use Rattle.encoding.specs.Values.{kindOf}
@@ -20,9 +20,9 @@ use Rattle.model.specs.Maps.{Map, isSome, orElse, put}
 use Rattle.model.specs.Inputs.{size, targets}
 use Rattle.model.specs.Offer.{PlanAction, Offer, noOffer, valueOffer, literalOffer}
 use Rattle.model.specs.Trial.{State, empty, add}
-use Rattle.model.specs.Arrays.{mapOf, storeWords}
+use Rattle.model.specs.Arrays.{storeWords}
 use Rattle.model.proofs.Maps.{Same, same?, put-here, put-there, put-none}
-use Rattle.model.proofs.Arrays.{store}
+use Rattle.model.proofs.Arrays.{mapOf, store}
 use Rattle.state.specs.Held.{isKind, heldValue, held, knownOf}
 use Rattle.state.specs.Planned.{targetsIn, shapeAt, shapeOf, valued, planOf, Holds}
 use Rattle.state.specs.Stores.{Learnt, planned, Planned}
@@ -98,7 +98,7 @@ module _ (ws : List Wire) (detail n : ℕ) where
 -- the arrays of known values after a trial
 pub record KnownAfter (known : Map Value) (n : ℕ) (o : Option Value) (kinds words : List ℕ) : Type 0 where
   pub kinds-long : length kinds ≡ maxNodes
-  pub words-long : length words ≡ maxWires
+  pub words-long : length words ≡ 4 * maxNodes
   pub known-is : put known n o ≡ knownOf kinds words
   pub kinds-listed : (m : ℕ) → isKind (getD kinds m 0)
 

@@ -1,5 +1,5 @@
 -- How arrays hold the known values: the kind of each node's value, 0 where none is known, and four words for each node.
-use Prim.Native.Nat.{ℕ, _+_, _*_, _≤_}
+use Prim.Native.Nat.{ℕ, _+_, _*_, _≤_, _<_}
 use mathlib.Core.Path.{_≡_}
 use mathlib.Core.Logic.{_⊎_}
 use mathlib.Core.Bool.{cond}
@@ -40,3 +40,9 @@ held kind a b c d = cond (eqb kind 0) none (some (heldValue kind a b c d))
 unfoldable pub knownOf : List ℕ → List ℕ → Map Value
 knownOf kinds words =
     λ n. held (getD kinds n 0) (getD words (4 * n) 0) (getD words (4 * n + 1) 0) (getD words (4 * n + 2) 0) (getD words (4 * n + 3) 0)
+
+-- one of the kinds or actions of the first n nodes is above a bound
+pub record Above (bytes : List ℕ) (n bound : ℕ) : Type 0 where
+  pub node : ℕ
+  pub within : node < n
+  pub above : bound < getD bytes node 0

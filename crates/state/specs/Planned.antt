@@ -1,12 +1,12 @@
 -- How arrays hold the plan: for each node an action and its detail.
-use Prim.Native.Nat.{ℕ, _≤_, _<_}
+use Prim.Native.Nat.{ℕ, _*_, _≤_, _<_}
 use mathlib.Core.Path.{_≡_}
 use mathlib.Core.Bool.{true, cond}
 use mathlib.Core.Option.{Option, none, some}
 use mathlib.Core.List.{List, map}
 use lib.Dec.{eqb}
 use lib.ListN.{length, getD}
-use Rattle.ir.specs.Limits.{maxNodes, maxWires}
+use Rattle.ir.specs.Limits.{maxNodes}
 use Rattle.ir.specs.declared.PortRef.{PortRef}
 use Rattle.ir.specs.declared.Wire.{Wire}
 use Rattle.value.specs.declared.Value.{Value}
@@ -60,7 +60,7 @@ pub record Shaped (ws : List Wire) (n : ℕ) (actions details : List ℕ) : Type
 -- the arrays hold what is known and planned of the nodes of a graph
 pub record Holds (g : Graph) (kinds words actions details : List ℕ) (s : State) : Type 0 where
   pub kinds-long : length kinds ≡ maxNodes
-  pub words-long : length words ≡ maxWires
+  pub words-long : length words ≡ 4 * maxNodes
   pub shaped : Shaped (g .wires) (size g) actions details
   pub known : s .known ≡ knownOf kinds words
   pub plan : s .plan ≡ planOf (g .wires) (s .known) actions details

@@ -6,7 +6,7 @@ use value::OptionValue;
 use value::Value;
 ghost use mathlib.Core.Path.{_≡_};
 ghost use mathlib.Core.List.{List};
-ghost use mathlib.Core.Bool.{false};
+ghost use mathlib.Core.Bool.{true, false};
 ghost use mathlib.Core.Option.{none};
 ghost use Prim.Native.Nat.{ℕ, _*_, _≤_, _<_};
 ghost use lib.Dec.{eqb};
@@ -17,7 +17,7 @@ ghost use Rattle.graph.specs.Graph.{Graph};
 ghost use Rattle.model.specs.Maps.{isSome};
 ghost use Rattle.model.specs.Inputs.{optional, size};
 ghost use Rattle.model.specs.Trial.{State, empty, add};
-ghost use Rattle.state.specs.Held.{heldValue, heldComposite, knownOf};
+ghost use Rattle.state.specs.Held.{heldValue, heldComposite, knownOf, Above};
 ghost use Rattle.state.specs.Planned.{Holds};
 ghost use Rattle.state.specs.Trials.{offerOf, Within};
 ghost use Rattle.state.specs.Stores.{ThreeFloats, FourFloats, Learnt, Planned};
@@ -184,7 +184,8 @@ pub fn load(kinds: &[u8; limit::NODES], words: &[u64; WORDS], n: usize) -> Optio
 // Whether one of the kinds or actions of the first nodes is above a bound.
 pub fn any_above(bytes: &[u8; limit::NODES], nodes: usize, bound: u8) -> bool
     requires { ⌜ nodes ≤ maxNodes ⌝ }
-    ensures { λ r. ⌜ (r ≡ false → (m : ℕ) → m < nodes → getD (now (bytes .entry)) m 0 ≤ bound) ⌝ }
+    ensures low { λ r. ⌜ (r ≡ false → (m : ℕ) → m < nodes → getD (now (bytes .entry)) m 0 ≤ bound) ⌝ }
+    ensures above { λ r. ⌜ (r ≡ true → Above (now (bytes .entry)) nodes bound) ⌝ }
 {
     let mut found = false;
     let mut node: usize = 0;

@@ -106,12 +106,6 @@ module _ (before : List Row) {x y : Row} (e : y ≡ x) {t : Bool} (h : t ≡ has
   pub passes-row : t ≡ false → Cells (before ++ (x ∷ [])) cells
   passes-row k = passes before x cells m (ap hasCell (sym e) ∙ sym h ∙ k)
 
--- what stands in the cell of a row
-pub looks-up : (rows : List Row) (r : Row) {cells : List Bool} → Cells rows cells → {t : Bool} → t ≡ hasCell r → t ≡ true → {i : ℕ} → i ≡ cellOf r → getD cells i false ≡ (hasCell r && covers rows r)
-looks-up rows r {cells} m h k c =
-    let has = sym h ∙ k in
-    ap (λ (j : ℕ). getD cells j false) c ∙ m .marked r has ∙ sym (ap (λ (b : Bool). b && covers rows r) has)
-
 pub none-marked : Cells [] (replicate 21504 false)
 unfolding covers
 none-marked = record { long = length-replicate 21504 false; marked = λ r k. let l = listed r k in getD-replicate 21504 (cellOf r) false false (omega (arith, l .class, l .first, l .second, l .third)) }

@@ -2,11 +2,13 @@
 use Prim.Native.Nat.{ℕ, _+_, _*_}
 use mathlib.Core.Path.{_≡_}
 use mathlib.Core.Bool.{Bool, true, false, cond, _&&_, _||_}
+use mathlib.Core.Option.{Option, none, some}
 use mathlib.Core.List.{List, [], _∷_}
 use lib.Dec.{eqb, ltb, leb}
 use lib.ListN.{length, getD}
+use Rattle.graph.specs.declared.Counts.{Counts}
 use Rattle.graph.specs.declared.Row.{Row}
-use Rattle.graph.specs.Graph.{member}
+use Rattle.table.specs.declared.AnnihilatorKind.{AnnihilatorKind}
 use Rattle.table.specs.declared.AnnihilatorKind.the-variants.{AndFalse, OrTrue}
 use Rattle.table.specs.declared.OptionAnnihilator.{OptionAnnihilator}
 use Rattle.table.specs.declared.OptionAnnihilator.the-variants.{None, Some}
@@ -19,21 +21,34 @@ unfoldable pub covers : List Row → Row → Bool
 covers [] row = false
 covers (r ∷ rs) row = isRow r row || covers rs row
 
--- the rows that have a cell in the array: "Rows are for 4 to 41", and seven variants follow Unwired
+-- the rows that have a cell in the array: those of a listed class and listed variants
 abbrev pub hasCell : Row → Bool
 hasCell r = ((ltb (r .class) 42 && leb (r .first) 7) && leb (r .second) 7) && leb (r .third) 7
 
 abbrev pub cellOf : Row → ℕ
 cellOf r = ((r .class * 8 + r .first) * 8 + r .second) * 8 + r .third
 
--- the array marks the cells of these rows, and no others
-pub record Cells (rows : List Row) (cells : List Bool) : Type 0 where
-  pub long : length cells ≡ 21504
-  pub marked : (r : Row) → hasCell r ≡ true → getD cells (cellOf r) false ≡ covers rows r
+-- what the table of rows holds, and whether it has a row
+abbrev pub RowTable : Type 0
+RowTable = List Bool
 
--- what settles the class, among the classes of a graph's annihilator records
-abbrev pub annihilatorOf : List ℕ → ℕ → OptionAnnihilator
-annihilatorOf classes class =
-    cond (eqb class 12) (cond (member 12 classes) (Some AndFalse) None)
-    (cond (eqb class 13) (cond (member 13 classes) (Some OrTrue) None)
-    None)
+abbrev pub isMarked : RowTable → Row → Bool
+isMarked cells r = getD cells (cellOf r) false
+
+-- the table has these rows, and no others
+pub record Cells (rows : List Row) (cells : RowTable) : Type 0 where
+  pub long : length cells ≡ 21504
+  pub marked : (r : Row) → hasCell r ≡ true → isMarked cells r ≡ covers rows r
+
+-- the Bool of each case: "a false settles it", "a true settles it"
+abbrev pub boolOf : AnnihilatorKind → Bool
+boolOf AndFalse = false
+boolOf OrTrue = true
+
+abbrev pub settling : OptionAnnihilator → Option Bool
+settling None = none
+settling (Some kind) = some (boolOf kind)
+
+-- whether an annihilator record of the class was counted
+abbrev pub counted : Counts → ℕ → Bool
+counted c class = cond (eqb class 12) (c .«and_false») (cond (eqb class 13) (c .«or_true») false)

@@ -15,27 +15,10 @@ use lib.Signed.{leZ, nonNeg, shrZ, mag-shr}
 use mir.Syntax.{w64}
 use mir.Val.{Fits, SFits, toZ, ofZ}
 use mir.Facts.{toZ-ofZ}
-use mir.ValLaws.{toZ-pos, toZ-neg, toZ-fits, ofZ-toZ, half-full, sfits-le}
+use mir.ValLaws.{half-full, sfits-le}
 use Rattle.whole.specs.declared.OptionInt.{OptionInt}
-use Rattle.whole.specs.Checked.{inRange}
-use Rattle.whole.specs.Bits.{toBits, fromBits, shiftInRange, shifted, bitSum}
+use Rattle.whole.specs.Bits.{shiftInRange, shifted, bitSum}
 use Rattle.whole.proofs.Laws.{readBack, not-is}
-use Rattle.whole.proofs.Checked.{range→fits, fits→range}
-
--- ---- Two's complement, in plain numbers: n is n, and -(n + 1) is 2^64 - (n + 1)
-
-pub bits-upper : (n : ℕ) → n < 2 ^ 63 → (toBits (pos n) ≡ n) × (fromBits n ≡ pos n)
-bits-upper n h = (refl, toZ-pos w64 n h)
-
-pub bits-lower : (n : ℕ) → n < 2 ^ 63 → (toBits (negsuc n) ≡ 2 ^ 64 - suc n) × (fromBits (2 ^ 64 - suc n) ≡ negsuc n)
-bits-lower n h = (refl, toZ-neg w64 n h)
-
--- There and back.
-pub from-to-bits : (z : ℤ) → inRange z ≡ true → fromBits (toBits z) ≡ z
-from-to-bits z h = toZ-ofZ (range→fits z h)
-
-pub to-from-bits : (n : ℕ) → n < 2 ^ 64 → (inRange (fromBits n) ≡ true) × (toBits (fromBits n) ≡ n)
-to-from-bits n h = let f : Fits w64 n = record { fits = h } in (fits→range (fromBits n) (toZ-fits w64 n f), ofZ-toZ w64 n f)
 
 -- ---- The cast of an Int x that is not negative, and of x = !z for a negative z
 
@@ -77,13 +60,13 @@ module _ {k : ℤ} {t : Bool} (f : SFits w64 k) (e : t ≡ shiftInRange (readBac
   pub count : t ≡ true → ofZ w64 k < 64
   count h = shift-count k (sym (e ∙ ap shiftInRange (toZ-ofZ f)) ∙ h) .0
 
-  pub some : t ≡ true → (z : ℕ → ℤ) → OptionInt.Some (z (2 ^ ofZ w64 k)) ≡ shifted k (z (2 ^ natAbs k))
+  pub inside : t ≡ true → (z : ℕ → ℤ) → OptionInt.Some (z (2 ^ ofZ w64 k)) ≡ shifted k (z (2 ^ natAbs k))
   unfolding shifted
-  some h z = let i = sym (e ∙ ap shiftInRange (toZ-ofZ f)) ∙ h in rw (shift-count k i .1, i)
+  inside h z = let i = sym (e ∙ ap shiftInRange (toZ-ofZ f)) ∙ h in rw (shift-count k i .1, i)
 
-  pub none : t ≡ false → (z : ℤ) → OptionInt.None ≡ shifted k z
+  pub outside : t ≡ false → (z : ℤ) → OptionInt.None ≡ shifted k z
   unfolding shifted
-  none h z = rw (sym (e ∙ ap shiftInRange (toZ-ofZ f)) ∙ h)
+  outside h z = rw (sym (e ∙ ap shiftInRange (toZ-ofZ f)) ∙ h)
 
 pub read-shift : {a : ℤ} (n : ℕ) → SFits w64 a → readBack (shrZ (readBack a) n) ≡ shrZ a n
 read-shift {a} n f = rw (toZ-ofZ f) (toZ-ofZ (sfits-le (mag-shr a n) f))

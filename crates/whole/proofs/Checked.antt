@@ -32,16 +32,16 @@ fits→range z f = range-is z ∙ le-leb (mag z) (2 ^ 63 - 1) (omega arith)
 
 -- An operation's result, where a test t of its range passes and where it fails.
 module _ (f : ℤ → ℤ → ℤ) {a b : ℤ} {t : Bool} (p : SFits w64 a) (q : SFits w64 b) (e : t ≡ inRange (f (readBack a) (readBack b))) where
-  pub fits : t ≡ true → SFits w64 (f (readBack a) (readBack b))
-  fits h = range→fits _ (sym e ∙ h)
+  pub in-word : t ≡ true → SFits w64 (f (readBack a) (readBack b))
+  in-word h = range→fits _ (sym e ∙ h)
 
-  pub some : t ≡ true → OptionInt.Some (readBack (f (readBack a) (readBack b))) ≡ checked (f a b)
+  pub inside : t ≡ true → OptionInt.Some (readBack (f (readBack a) (readBack b))) ≡ checked (f a b)
   unfolding checked
-  some h = rw (toZ-ofZ (fits h), ← read₂ f p q, ← e, h)
+  inside h = rw (toZ-ofZ (in-word h), ← read₂ f p q, ← e, h)
 
-  pub none : t ≡ false → OptionInt.None ≡ checked (f a b)
+  pub outside : t ≡ false → OptionInt.None ≡ checked (f a b)
   unfolding checked
-  none h = rw (← read₂ f p q, ← e, h)
+  outside h = rw (← read₂ f p q, ← e, h)
 
 -- ---- Sums
 

@@ -7,24 +7,16 @@ use native.Mathlib.Omega.{arith}
 use lib.Dec.{T, leb·suc-suc, leb→le, ltb→lt}
 use lib.IntN.{ℤ, pos, negsuc, negℤ, natAbs}
 use lib.Signed.{leZ, nonNeg}
-use lib.Ieee.{Float, nan, inf, fin, binary64, up, down, inFloat, ofInt}
+use lib.Ieee.{Float, nan, inf, fin, binary64, up, inFloat, ofInt}
 use lib.Ieee.Back.{round-whole}
 use lib.Ieee.Exact.{HasValue}
 use Rattle.whole.specs.declared.OptionFloat.{OptionFloat}
-use Rattle.whole.specs.Convert.{intAsF64}
+use Rattle.whole.specs.Convert.{intAsF64, IsInt}
 
 pub float-range : (n : ℤ) → (leZ (negℤ (pos (2 ^ 53))) n && leZ n (pos (2 ^ 53))) ≡ inFloat binary64 n
 unfolding inFloat
 float-range (pos n) = refl
 float-range (negsuc n) = and-true _ ∙ sym (leb·suc-suc n (2 ^ 53 - 1))
-
--- x is the number n: finite, m * 2 ^ e in size, with n's sign. So rounding n gives x too.
-pub record IsInt (x : Float) (n : ℤ) : Type 0 where
-  pub m : ℕ
-  pub e : ℤ
-  pub finite : x ≡ fin (not (nonNeg n)) m e
-  pub size : m * up e ≡ natAbs n * down e
-  pub nearest : x ≡ ofInt binary64 n
 
 value : (n : ℤ) → T (inFloat binary64 n) → HasValue (ofInt binary64 n) (not (nonNeg n)) (natAbs n) 1
 unfolding inFloat ofInt

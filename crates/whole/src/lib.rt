@@ -4,7 +4,8 @@ ghost use Prim.Native.Nat.{_+_, _*_, _^_, _≤_};
 ghost use lib.Dec.{leb};
 ghost use lib.IntN.{pos, natAbs, _+ℤ_, _*ℤ_};
 ghost use lib.Signed.{ltZ, leZ};
-ghost use Rattle.whole.specs.Convert.{intOfBool, intAsF64};
+ghost use lib.Ieee.{Float};
+ghost use Rattle.whole.specs.Convert.{intOfBool, intAsF64, IsInt};
 ghost use Rattle.whole.specs.Compare.{eqZ, minOf, maxOf};
 ghost use Rattle.whole.specs.Checked.{inRange, checkedAddOf, checkedSubOf, checkedMulOf, divisionOverflows, divOf, remOf, checkedAbsOf, checkedNegOf};
 ghost use Rattle.whole.specs.Bits.{toBits, fromBits, andOf, orOf, xorOf, notOf, nandOf, norOf, shiftInRange, shiftLeftOf, shiftRightOf, bitCountOf};
@@ -32,8 +33,10 @@ pub fn int_of_bool(b: bool) -> i64
 // Up to this size every Int is a float.
 const LIMIT: i64 = 1 << 53;
 
+// The float that is the Int.
 pub fn int_as_f64(n: i64) -> OptionFloat
-    ensures { λ r. ⌜ r ≡ intAsF64 n ⌝ }
+    ensures value { λ r. ⌜ r ≡ intAsF64 n ⌝ }
+    ensures exact { λ r. ⌜ ((x : Float) → r ≡ OptionFloat.Some x → IsInt x n) ⌝ }
 {
     if (-LIMIT <= n) & (n <= LIMIT) {
         OptionFloat::Some(n as f64)

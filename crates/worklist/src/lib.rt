@@ -7,7 +7,7 @@ use graph::Counts;
 use graph::SLOTS;
 use ir::limit;
 use state::WORDS;
-use table::CELLS;
+use table::Rows;
 ghost use mathlib.Core.Path.{_≡_};
 ghost use mathlib.Core.Option.{none};
 ghost use Prim.Native.Nat.{_<_};
@@ -28,7 +28,7 @@ fn turn(
     counts: Counts,
     table: &[u16; SLOTS],
     wires: &[u8],
-    rows: &[bool; CELLS],
+    rows: &Rows,
     feeds_first: &[u16; SLOTS],
     feeds_next: &[u16; limit::WIRES],
     first: &[u16; limit::NODES],
@@ -74,7 +74,7 @@ pub fn run(
     counts: Counts,
     table: &[u16; SLOTS],
     wires: &[u8],
-    rows: &[bool; CELLS],
+    rows: &Rows,
     feeds_first: &[u16; SLOTS],
     feeds_next: &[u16; limit::WIRES],
     first: &[u16; limit::NODES],

@@ -17,10 +17,10 @@ composites-requires : tie.Need-composites-requires
 composites-requires c κs = search needs
 
 mul-if1-2 : tie.Need-mul-if1-2
-mul-if1-2 c = omega (arith, c .composites .ensures .1)
+mul-if1-2 c = omega (arith, c .composites .ensures .1 .0)
 
 add-if1 : tie.Need-add-if1
-add-if1 c = omega (arith, c .composites .ensures .1)
+add-if1 c = omega (arith, c .composites .ensures .1 .0)
 
 returns : tie.Need-returns
 returns c words = sym (le-leb _ _ (le-trans (c .before .composites .ensures .0 words (now (c .before .before .args .actions))) (c .if1 .taken)))

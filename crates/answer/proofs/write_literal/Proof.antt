@@ -37,7 +37,7 @@ same-length c = search needs
 
 returns : tie.Need-returns
 unfolding literalFate bytesOf
-returns c = rw (c .before .before .before .before .before .before .before .before .kind-of .ensures) at (written-more (c .before .before .before .before .before .before .write-head .ensures) (c .before .before .before .before .before .before .before .before .before .before .pre) (c .before .before .write-bytes .ensures))
+returns c = rw (c .before .before .before .before .before .before .before .before .kind-of .ensures) at (written-more (c .before .before .before .before .before .before .write-head .ensures) (c .before .before .before .before .before .before .before .before .before .before .pre) (c .before .before .write-bytes .ensures .0))
 
 pub write-literal-spec : {M : Type 1} → statement M
 write-literal-spec = tie.close (tie.spec kind-of-requires add-write-head write-head-requires write-bytes-requires same-length returns)

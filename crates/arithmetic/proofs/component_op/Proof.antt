@@ -1,7 +1,14 @@
 -- `arithmetic::component_op` meets its contract.
+use mathlib.Core.Path.{_≡_}
 use borrow.Author.Needs.{needs}
+use lib.Ieee.{Float, binary64, rem}
+use Rattle.arithmetic.specs.declared.MathOp.{MathOp}
+use Rattle.arithmetic.specs.Arithmetic.{floatOp}
 use Rattle.arithmetic.proofs.component_op.Statement.{statement}
 use Rattle.arithmetic.proofs.component_op.Tie as tie
+
+of-modulo : {op : MathOp} {r : Float} (x y : Float) → op ≡ MathOp.Modulo → r ≡ rem binary64 x y → r ≡ floatOp op x y
+of-modulo x y o e = rw o e
 
 enum-told : tie.Need-enum-told
 enum-told c = search needs
@@ -34,7 +41,7 @@ returns-4 : tie.Need-returns-4
 returns-4 c = rw (c .enum-told4 .given .1)
 
 returns-5 : tie.Need-returns-5
-returns-5 c = rw (c .before .enum-told5 .given .1) (c .remainder .ensures)
+returns-5 c = search of-modulo
 
 pub component-op-spec : {M : Type 1} → statement M
 component-op-spec =

@@ -15,9 +15,9 @@ use Rattle.arithmetic.specs.Arithmetic.{floatsMath, asReal, numbersMath}
 use Rattle.arithmetic.proofs.numbers_math.Statement.{statement}
 use Rattle.arithmetic.proofs.numbers_math.Tie as tie
 
-none : (op : MathOp) (x : OptionFloat) → floatsMath op x OptionFloat.None ≡ OptionValue.None
-none op OptionFloat.None = refl
-none op (OptionFloat.Some x) = refl
+no-second : (op : MathOp) (x : OptionFloat) → floatsMath op x OptionFloat.None ≡ OptionValue.None
+no-second op OptionFloat.None = refl
+no-second op (OptionFloat.Some x) = refl
 
 -- one operand is not whole
 floats :
@@ -25,7 +25,7 @@ floats :
     OneOf (0 ∷ 2 ∷ []) (tagOf the-type a) ⊎ OneOf (0 ∷ 2 ∷ []) (tagOf the-type b) →
     floatsMath op (asReal a) (asReal b) ≡ numbersMath op a b
 floats op MathIn.None b k = refl
-floats op (MathIn.I m) MathIn.None k = none op (intAsF64 m)
+floats op (MathIn.I m) MathIn.None k = no-second op (intAsF64 m)
 floats op (MathIn.I m) (MathIn.I n) k = absurd (⊎-elim (miss (0 ∷ 2 ∷ []) 1 tt) (miss (0 ∷ 2 ∷ []) 1 tt) k)
 floats op (MathIn.I m) (MathIn.F y) k = refl
 floats op (MathIn.F x) b k = refl

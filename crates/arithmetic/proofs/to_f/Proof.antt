@@ -19,7 +19,7 @@ returns : tie.Need-returns
 returns c = search needs
 
 returns-2 : tie.Need-returns-2
-returns-2 c = search (needs, c .int-as-f64 .ensures, c .before .before .a .given .1)
+returns-2 c = search (needs, c .int-as-f64 .ensures .0, c .before .before .a .given .1)
 
 returns-3 : tie.Need-returns-3
 returns-3 c = rw (c .before .a2 .given .1)

@@ -27,9 +27,6 @@ enum-told-2 c = c .match2 .keys2
 returns-2 : tie.Need-returns-2
 returns-2 c = search gate
 
-shift-left-requires : tie.Need-shift-left-requires
-shift-left-requires c κs = tt
-
 given-int-requires : tie.Need-given-int-requires
 given-int-requires c κs = tt
 
@@ -48,6 +45,6 @@ bitwise-shift-left-spec =
     enum-known-n
     enum-told-2
     returns-2
-    shift-left-requires
+    (λ c κs. tt)
     given-int-requires
     returns-3)

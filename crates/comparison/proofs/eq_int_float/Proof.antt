@@ -14,13 +14,13 @@ enum-told : tie.Need-enum-told
 enum-told c = search needs
 
 returns : tie.Need-returns
-returns c = rw (← toZ-ofZ (c .before .before .before .fits .x), ← c .before .before .int-as-f64 .ensures, c .enum-told .given .1)
+returns c = rw (← toZ-ofZ (c .before .before .before .fits .x), ← c .before .before .int-as-f64 .ensures .0, c .enum-told .given .1)
 
 sanitize-requires : tie.Need-sanitize-requires
 sanitize-requires c κs = search needs
 
 returns-2 : tie.Need-returns-2
-returns-2 c = rw (← toZ-ofZ (c .before .before .before .before .before .fits .x), ← c .before .before .before .before .int-as-f64 .ensures, c .before .before .x .given .1, c .sanitize .ensures)
+returns-2 c = rw (← toZ-ofZ (c .before .before .before .before .before .fits .x), ← c .before .before .before .before .int-as-f64 .ensures .0, c .before .before .x .given .1, c .sanitize .ensures)
 
 pub eq-int-float-spec : {M : Type 1} → statement M
 eq-int-float-spec =

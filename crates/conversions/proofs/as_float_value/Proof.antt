@@ -28,7 +28,7 @@ enum-told-5 : tie.Need-enum-told-5
 enum-told-5 c = search needs
 
 returns : tie.Need-returns
-returns c = search (needs, c .before .before .v .given .1, c .int-as-f64 .ensures)
+returns c = search (needs, c .before .before .v .given .1, c .int-as-f64 .ensures .0)
 
 returns-2 : tie.Need-returns-2
 returns-2 c = search (needs, c .before .v2 .given .1)

@@ -34,7 +34,7 @@ enum-told-4 : tie.Need-enum-told-4
 enum-told-4 c = search needs
 
 returns : tie.Need-returns
-returns c = search (needs, c .before .before .v .given .1, c .int-as-f64 .ensures)
+returns c = search (needs, c .before .before .v .given .1, c .int-as-f64 .ensures .0)
 
 returns-2 : tie.Need-returns-2
 returns-2 c = search (needs, c .before .before .v2 .given .1)

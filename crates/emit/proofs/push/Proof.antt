@@ -6,7 +6,7 @@ use Rattle.emit.proofs.push.Statement.{statement}
 use Rattle.emit.proofs.push.Tie as tie
 
 returns : tie.Need-returns
-returns c = record { none = λ e. (refl, refl); one = λ h. absurd (omega (arith, c .if1 .taken)) }
+returns c = record { left = λ e. (refl, refl); put = λ h. absurd (omega (arith, c .if1 .taken)) }
 
 mul-stack : tie.Need-mul-stack
 mul-stack c = search needs
@@ -18,7 +18,7 @@ add-result : tie.Need-add-result
 add-result c = search needs
 
 returns-2 : tie.Need-returns-2
-returns-2 c = record { none = λ e. absurd (c .if1 .left e); one = λ h. (refl, refl) }
+returns-2 c = record { left = λ e. absurd (c .if1 .left e); put = λ h. (refl, refl) }
 
 pub push-spec : {M : Type 1} → statement M
 push-spec = tie.close (tie.spec returns mul-stack element-write-stack add-result returns-2)

@@ -10,10 +10,10 @@ use Rattle.encoding.specs.Wires.{wireBytes}
 use Rattle.records.specs.Access.{wiresOf, noWire}
 use Rattle.records.proofs.Runs.{wires-length}
 use Rattle.model.specs.Answer.{each}
+use Rattle.model.proofs.Each.{wires-size}
 use Rattle.state.specs.Planned.{shapeOf}
 use Rattle.answer.proofs.Fill.{Filling, fill-start, fill-long, fill-room, fill-next, fill-end}
 use Rattle.emit.specs.Emit.{becomes}
-use Rattle.emit.proofs.Fanning.{wires-size}
 use Rattle.emit.proofs.Writing.{whole-room, whole-written}
 use Rattle.emit.proofs.write_all.Statement.{statement}
 use Rattle.emit.proofs.write_all.Tie as tie

@@ -13,7 +13,7 @@ same-length : tie.Need-same-length
 same-length c = search needs
 
 returns : tie.Need-returns
-returns c = rw (c .before .before .before .before .before .wire .ensures) at (c .before .before .write-wire .ensures)
+returns c = rw (c .before .before .before .before .before .wire .ensures) at (c .before .before .write-wire .ensures .0)
 
 pub write-leaf-spec : {M : Type 1} → statement M
 write-leaf-spec = tie.close (tie.spec wire-requires write-wire-requires same-length returns)

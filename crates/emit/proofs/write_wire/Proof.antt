@@ -80,7 +80,7 @@ returns-4 : tie.Need-returns-4
 returns-4 c = (
   c .before .before .before .before .before .before .before .before .before .before .before .before .before .before .pre .stack-long,
   λ details R.
-      written-one (kept-from R (c .before .before .before .before .before .before .before .before .before .before .before .before .before .before .args .i) (c .before .before .before .before .before .before .before .before .before .before .before .before .before .before .pre .within) (kept-is (c .before .before .before .before .before .before .before)) _ (origin-is (c .before .before .before .before .before .before .before) details R ∙ c .before .before .before .before .before .source .given .1)) (rw (c .before .before .before .before .before .before .before .before .before .before .before .wire .ensures) at (c .before .before .write-wire .ensures)),
+      written-one (kept-from R (c .before .before .before .before .before .before .before .before .before .before .before .before .before .before .args .i) (c .before .before .before .before .before .before .before .before .before .before .before .before .before .before .pre .within) (kept-is (c .before .before .before .before .before .before .before)) _ (origin-is (c .before .before .before .before .before .before .before) details R ∙ c .before .before .before .before .before .source .given .1)) (rw (c .before .before .before .before .before .before .before .before .before .before .before .wire .ensures) at (c .before .before .write-wire .ensures .0)),
 )
 
 pub write-wire-spec : {M : Type 1} → statement M

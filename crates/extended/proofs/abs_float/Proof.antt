@@ -4,7 +4,7 @@ use mathlib.Core.Path.{_≡_, refl, ap, _∙_, subst}
 use mathlib.Core.Bool.{Bool, true, false, cond}
 use denote.Floats.{passes}
 use borrow.Author.Tests.{le-leb, lt-leb}
-use lib.Dec.{leb, eqb}
+use lib.Dec.{T, leb, eqb}
 use lib.Ieee.{Float, nan, inf, binary64, fits, neg, odd, ofFields, ofBits, prec, low, top, hid, ones}
 use Rattle.ieee.specs.Bits.{bitsOf}
 use Rattle.ieee.proofs.Bits.{ofBits-bitsOf}
@@ -41,21 +41,21 @@ fields s (suc e) t =
     (special s (eqb t 0))
     (digits s (prec binary64) (hid binary64 + t) e (low binary64))
 
-absolute : (x : Float) (n : ℕ) → fits binary64 x ≡ true → n ≡ bitsOf x → unsigned (leb (2 ^ 63) n) x ≡ absFloat x
+absolute : (x : Float) (n : ℕ) → T (fits binary64 x) → n ≡ bitsOf x → unsigned (leb (2 ^ 63) n) x ≡ absFloat x
 unfolding ofBits
 absolute x n h p =
     subst (λ (y : Float). unsigned (leb (2 ^ 63) n) y ≡ absFloat y)
-    (ap (ofBits binary64) p ∙ ofBits-bitsOf x (passes _ h))
+    (ap (ofBits binary64) p ∙ ofBits-bitsOf x h)
     (fields (leb (2 ^ 63) n) (n % top binary64 / hid binary64) (n % hid binary64))
 
 to-bits-requires : tie.Need-to-bits-requires
 to-bits-requires c κs = tt
 
 returns : tie.Need-returns
-returns c = rw (lt-leb _ _ (c .if1 .taken)) at (absolute _ _ (c .before .before .good .0 .1) (c .before .to-bits .ensures))
+returns c = rw (lt-leb _ _ (c .if1 .taken)) at (absolute _ _ (passes _ (c .before .before .good .0 .1)) (c .before .to-bits .ensures))
 
 returns-2 : tie.Need-returns-2
-returns-2 c = rw (le-leb _ _ (c .if1 .left)) at (absolute _ _ (c .before .before .good .0 .1) (c .before .to-bits .ensures))
+returns-2 c = rw (le-leb _ _ (c .if1 .left)) at (absolute _ _ (passes _ (c .before .before .good .0 .1)) (c .before .to-bits .ensures))
 
 pub abs-float-spec : {M : Type 1} → statement M
 abs-float-spec = tie.close (tie.spec to-bits-requires returns returns-2)

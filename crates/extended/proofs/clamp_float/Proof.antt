@@ -1,7 +1,12 @@
 -- `extended::clamp_float` meets its contract.
-use borrow.Author.Needs.{needs}
+use mathlib.Core.Path.{_≡_, ap, _∙_}
+use lib.Ieee.{Float}
+use Rattle.extended.specs.Extended.{minFloat}
 use Rattle.extended.proofs.clamp_float.Statement.{statement}
 use Rattle.extended.proofs.clamp_float.Tie as tie
+
+of-larger : {r x y : Float} (hi : Float) → r ≡ minFloat x hi → x ≡ y → r ≡ minFloat y hi
+of-larger hi e p = e ∙ ap (λ (x : Float). minFloat x hi) p
 
 max-float-requires : tie.Need-max-float-requires
 max-float-requires c κs = tt
@@ -10,7 +15,7 @@ min-float-requires : tie.Need-min-float-requires
 min-float-requires c κs = tt
 
 returns : tie.Need-returns
-returns c = search (needs, c .min-float .ensures, c .before .max-float .ensures)
+returns c = search of-larger
 
 pub clamp-float-spec : {M : Type 1} → statement M
 clamp-float-spec = tie.close (tie.spec max-float-requires min-float-requires returns)

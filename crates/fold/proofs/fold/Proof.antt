@@ -15,10 +15,10 @@ enum-known-length : tie.Need-enum-known-length
 enum-known-length c = search needs
 
 slice-reshare-prefix-write-all : tie.Need-slice-reshare-prefix-write-all
-slice-reshare-prefix-write-all c = omega (arith, c .before .before .before .before .before .fold .ensures .1 .1 .0, ap (λ (o : Outcome). numbers o .length) (c .before .length .given .1), c .before .before .before .before .out .given)
+slice-reshare-prefix-write-all c = omega (arith, c .before .before .before .before .before .fold .ensures .1 .1 .1 .1 .1 .0, ap (λ (o : Outcome). numbers o .length) (c .before .length .given .1), c .before .before .before .before .out .given)
 
 slice-aggregate-write-all : tie.Need-slice-aggregate-write-all
-slice-aggregate-write-all c = sym (length-take-le _ _ (omega (arith, c .before .before .before .before .before .before .fold .ensures .1 .1 .0, ap (λ (o : Outcome). numbers o .length) (c .before .before .length .given .1), c .before .before .before .before .before .out .given)))
+slice-aggregate-write-all c = sym (length-take-le _ _ (omega (arith, c .before .before .before .before .before .before .fold .ensures .1 .1 .1 .1 .1 .0, ap (λ (o : Outcome). numbers o .length) (c .before .before .length .given .1), c .before .before .before .before .before .out .given)))
 
 write-all-requires : tie.Need-write-all-requires
 write-all-requires c κs = search needs

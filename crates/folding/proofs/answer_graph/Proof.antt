@@ -27,8 +27,8 @@ write-kept-requires c κs =
     record {
       details = now (c .before .before .before .before .before .before .before .args .details);
       worked = c .before .before .before .before .before .before .before .pre;
-      low = c .before .before .before .before .any-above .ensures (not-true _ (c .before .before .before .if1 .taken));
-      room = leb-true _ _ (sym (c .before .before .holds .ensures (now (c .before .before .before .before .before .before .before .args .words))) ∙ c .before .if2 .taken);
+      low = c .before .before .before .before .any-above .ensures .0 (not-true _ (c .before .before .before .if1 .taken));
+      fits = leb-true _ _ (sym (c .before .before .holds .ensures (now (c .before .before .before .before .before .before .before .args .words))) ∙ c .before .if2 .taken);
     }
 
 same-length : tie.Need-same-length

@@ -1,7 +1,5 @@
 -- `folding::mezburiko_fold` meets its contract.
-use mathlib.Core.Path.{sym, ap, _∙_}
 use borrow.Author.Needs.{needs}
-use Rattle.folding.specs.Entry.{numbers}
 use Rattle.folding.proofs.mezburiko_fold.Statement.{statement}
 use Rattle.folding.proofs.mezburiko_fold.Tie as tie
 
@@ -18,13 +16,13 @@ same-length : tie.Need-same-length
 same-length c = search needs
 
 returns : tie.Need-returns
-returns c = (sym (ap numbers (c .before .bytes .given .1)) ∙ c .before .before .before .before .before .fold .ensures .0, c .before .before .before .before .before .fold .ensures .1 .0)
+returns c = rw (c .before .bytes .given .1) at (c .before .before .before .before .before .fold .ensures .1)
 
 same-length-2 : tie.Need-same-length-2
 same-length-2 c = search needs
 
 returns-2 : tie.Need-returns-2
-returns-2 c = (sym (ap numbers (c .before .number .given .1)) ∙ c .before .before .before .before .before .fold .ensures .0, c .before .before .before .before .before .fold .ensures .1 .0)
+returns-2 c = rw (c .before .number .given .1) at (c .before .before .before .before .before .fold .ensures .1)
 
 pub mezburiko-fold-spec : {M : Type 1} → statement M
 mezburiko-fold-spec = tie.close (tie.spec fold-requires enum-known-bytes enum-known-number same-length returns same-length-2 returns-2)

@@ -17,7 +17,7 @@ wires-requires : tie.Need-wires-requires
 wires-requires c κs = c .before .before .pre .settled .accepts
 
 rewrite-requires : tie.Need-rewrite-requires
-rewrite-requires c κs = (bounded-at _ _ (c .before .before .before .before .before .before .before .pre .settled .accepts) (c .before .before .before .before .wires .ensures), shaped-at (c .before .before .before .before .before .before .before .pre .settled) (c .before .before .before .before .wires .ensures))
+rewrite-requires c κs = (bounded-at _ _ (c .before .before .before .before .before .before .before .pre .settled .accepts) (c .before .before .before .before .wires .ensures .1), shaped-at (c .before .before .before .before .before .before .before .pre .settled) (c .before .before .before .before .wires .ensures .1))
 
 enum-known-index : tie.Need-enum-known-index
 enum-known-index c = search needs
@@ -29,20 +29,20 @@ stuck : (c : tie.After-wires-offset) → Tallied (shapeOf (wiresOf (now (c .befo
 stuck c = subst (λ (w : Rewriting). Tallied (shapeOf (wiresOf (now (c .before .before .before .before .before .before .before .before .before .wires .result))) (now (c .before .before .before .before .before .before .before .before .before .before .before .before .args .actions)) (now (c .before .before .before .before .before .before .before .before .before .before .before .before .args .details))) (c .before .before .before .before .before .before .before .before .before .before .before .before .args .counts .nodes) (wiresOf (now (c .before .before .before .before .before .before .before .before .before .wires .result))) w) (c .before .before .index .given .1) (c .before .before .before .before .rewrite .ensures .0)
 
 mul-place : tie.Need-mul-place
-mul-place c = omega (arith, small-place (c .before .before .before .before .before .before .before .before .before .before .before .before .pre .settled) (c .before .before .before .before .before .before .before .before .before .wires .ensures) (stuck c))
+mul-place c = omega (arith, small-place (c .before .before .before .before .before .before .before .before .before .before .before .before .pre .settled) (c .before .before .before .before .before .before .before .before .before .wires .ensures .1) (stuck c))
 
 add-place : tie.Need-add-place
-add-place c = omega (arith, small-place (c .before .before .before .before .before .before .before .before .before .before .before .before .pre .settled) (c .before .before .before .before .before .before .before .before .before .wires .ensures) (stuck c), c .wires-offset .ensures)
+add-place c = omega (arith, small-place (c .before .before .before .before .before .before .before .before .before .before .before .before .pre .settled) (c .before .before .before .before .before .before .before .before .before .wires .ensures .1) (stuck c), c .wires-offset .ensures)
 
 enum-known-count : tie.Need-enum-known-count
 enum-known-count c = search needs
 
 write-answer-requires : tie.Need-write-answer-requires
 write-answer-requires c κs =
-    rewrote-at (c .before .before .before .before .before .before .before .before .before .before .before .before .before .before .before .before .pre .settled) (c .before .before .before .before .before .before .before .before .before .before .before .before .before .wires .ensures) (subst (λ (w : Rewriting). Tallied (shapeOf (wiresOf (now (c .before .before .before .before .before .before .before .before .before .before .before .before .before .wires .result))) (now (c .before .before .before .before .before .before .before .before .before .before .before .before .before .before .before .before .args .actions)) (now (c .before .before .before .before .before .before .before .before .before .before .before .before .before .before .before .before .args .details))) (c .before .before .before .before .before .before .before .before .before .before .before .before .before .before .before .before .args .counts .nodes) (wiresOf (now (c .before .before .before .before .before .before .before .before .before .before .before .before .before .wires .result))) w) (c .before .before .before .before .before .before .count .given .1) (c .before .before .before .before .before .before .before .before .rewrite .ensures .0)) (c .before .before .before .before .before .before .before .before .rewrite .ensures .1)
+    rewrote-at (c .before .before .before .before .before .before .before .before .before .before .before .before .before .before .before .before .pre .settled) (c .before .before .before .before .before .before .before .before .before .before .before .before .before .wires .ensures .1) (subst (λ (w : Rewriting). Tallied (shapeOf (wiresOf (now (c .before .before .before .before .before .before .before .before .before .before .before .before .before .wires .result))) (now (c .before .before .before .before .before .before .before .before .before .before .before .before .before .before .before .before .args .actions)) (now (c .before .before .before .before .before .before .before .before .before .before .before .before .before .before .before .before .args .details))) (c .before .before .before .before .before .before .before .before .before .before .before .before .before .before .before .before .args .counts .nodes) (wiresOf (now (c .before .before .before .before .before .before .before .before .before .before .before .before .before .wires .result))) w) (c .before .before .before .before .before .before .count .given .1) (c .before .before .before .before .before .before .before .before .rewrite .ensures .0)) (c .before .before .before .before .before .before .before .before .rewrite .ensures .1)
 
 returns : tie.Need-returns
-returns c = record { law = λ own S. refuse-endless S (stuck-at S (c .before .before .before .before .before .before .before .before .before .wires .ensures) (stuck c)) (ap (λ (x : ℕ). x + 7 * c .before .before .index .given .0 .0) (c .wires-offset .ensures)) }
+returns c = record { law = λ own S. refuse-endless S (stuck-at S (c .before .before .before .before .before .before .before .before .before .wires .ensures .1) (stuck c)) (ap (λ (x : ℕ). x + 7 * c .before .before .index .given .0 .0) (c .wires-offset .ensures)) }
 
 same-length : tie.Need-same-length
 same-length c = search needs

@@ -48,17 +48,20 @@ write-wires-requires c κs =
     let a = c .before .before .before .before .before .before .before .before .before .before .before .args in
     let w = nodes-room (now (a .kinds)) (now (a .words)) (now (a .actions)) (a .counts .nodes) (7 * a .count) (c .before .before .before .write-nodes .ensures) R in
     record {
-      ready = ready-at (P .worked .settled) (P .counted) l _ _ e (c .before .before .before .before .before .wires .ensures) (P .rewritable);
-      room = omega (arith, w, wires-at (P .worked .settled) (P .counted) l _ _ e (c .before .before .before .before .before .wires .ensures));
+      ready = ready-at (P .worked .settled) (P .counted) l _ _ e (c .before .before .before .before .before .wires .ensures .1) (P .rewritable);
+      room = omega (arith, w, wires-at (P .worked .settled) (P .counted) l _ _ e (c .before .before .before .before .before .wires .ensures .1));
     }
+
+folded-requires : tie.Need-folded-requires
+folded-requires c κs = search needs
 
 same-length : tie.Need-same-length
 same-length c = search needs
 
 returns-3 : tie.Need-returns-3
 returns-3 c =
-    let P = c .before .before .before .before .before .before .before .before .before .before .before .before .before .before .pre in
-    record { law = λ own S. folded-at S (P .counted) (c .before .before .before .before .before .before .before .before .before .before .before .if1 .left) _ _ (nodes-are _ _ (P .worked .settled .accepts)) (c .before .before .before .before .before .before .before .before .wires .ensures) (room (c .before .before .before .before .before .before .before .before .before)) (c .before .before .before .before .before .before .write-nodes .ensures) (c .before .before .write-wires .ensures) }
+    let P = c .before .before .before .before .before .before .before .before .before .before .before .before .before .before .before .pre in
+    record { law = λ own S. rw (c .folded .ensures) (folded-at S (P .counted) (c .before .before .before .before .before .before .before .before .before .before .before .before .if1 .left) _ _ (nodes-are _ _ (P .worked .settled .accepts)) (c .before .before .before .before .before .before .before .before .before .wires .ensures .1) (room (c .before .before .before .before .before .before .before .before .before .before)) (c .before .before .before .before .before .before .before .write-nodes .ensures) (c .before .before .before .write-wires .ensures)) }
 
 pub write-answer-spec : {M : Type 1} → statement M
 write-answer-spec =
@@ -70,5 +73,6 @@ write-answer-spec =
     wires-requires
     write-nodes-requires
     write-wires-requires
+    folded-requires
     same-length
     returns-3)

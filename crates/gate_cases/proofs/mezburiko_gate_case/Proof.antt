@@ -25,7 +25,7 @@ unfolding zeros
 write-given-requires c κs = refl
 
 returns : tie.Need-returns
-returns c = rw (c .write-given .ensures, c .before .eval-in .ensures, c .before .before .before .operand-at3 .ensures, c .before .before .before .before .before .operand-at2 .ensures, c .before .before .before .before .before .before .before .operand-at .ensures)
+returns c = rw (c .write-given .ensures, c .before .eval-in .ensures .0, c .before .before .before .operand-at3 .ensures, c .before .before .before .before .before .operand-at2 .ensures, c .before .before .before .before .before .before .before .operand-at .ensures)
 
 pub mezburiko-gate-case-spec : {M : Type 1} → statement M
 mezburiko-gate-case-spec =

@@ -25,7 +25,7 @@ returns : tie.Need-returns
 returns c = search needs
 
 returns-2 : tie.Need-returns-2
-returns-2 c = rw (c .before .before .before .before .before .before .given .given .1, c .write-bytes .ensures .wrote, c .before .before .write-byte .ensures .wrote, c .before .before .before .variant-of .ensures, c .before .before .before .before .before .before .before .before .pre)
+returns-2 c = rw (c .before .before .before .before .before .before .given .given .1, c .write-bytes .ensures .0 .wrote, c .before .before .write-byte .ensures .wrote, c .before .before .before .variant-of .ensures, c .before .before .before .before .before .before .before .before .pre)
 
 pub write-given-spec : {M : Type 1} → statement M
 write-given-spec =

@@ -32,10 +32,10 @@ returns : tie.Need-returns
 returns c =
     let e = c .before .before .args .exponent in
     let shifted : 1 * 2 ^ e % 2 ^ 64 ≡ 2 ^ e = shl-exact 1 e 64 (lit< tt) (omega arith) ∙ one-mul (2 ^ e) in
-    subst⁻¹ (λ (x : Float). HasValue x false (2 ^ e) (2 ^ 1074)) (c .from-bits .ensures ∙ ap (ofBits binary64) shifted) (read-low e (omega (arith, c .before .if1 .taken)))
+    subst⁻¹ (λ (x : Float). HasValue x false (2 ^ e) (2 ^ 1074)) (c .from-bits .ensures .0 ∙ ap (ofBits binary64) shifted) (read-low e (omega (arith, c .before .if1 .taken)))
 
 returns-2 : tie.Need-returns-2
-returns-2 c = subst⁻¹ (λ (x : Float). HasValue x false (2 ^ c .before .before .args .exponent) (2 ^ 1074)) (c .from-bits2 .ensures) (read-high _ (omega (arith, c .before .if1 .left)) (c .before .before .pre))
+returns-2 c = subst⁻¹ (λ (x : Float). HasValue x false (2 ^ c .before .before .args .exponent) (2 ^ 1074)) (c .from-bits2 .ensures .0) (read-high _ (omega (arith, c .before .if1 .left)) (c .before .before .pre))
 
 pub power-spec : {M : Type 1} → statement M
 power-spec =

@@ -15,7 +15,7 @@ operand-of-requires : tie.Need-operand-of-requires
 operand-of-requires c κs = search needs
 
 returns : tie.Need-returns
-returns c i l h few =
+returns c i l h =
     c .operand-of .ensures ∙ ap (λ (o : Option Value). operandOf (carried o)) (c .before .load .ensures) ∙ sym (l .by-wire (c .before .before .if1 .taken))
 
 property-requires : tie.Need-property-requires
@@ -26,8 +26,8 @@ operand-of-requires-2 c κs = search needs
 
 returns-2 : tie.Need-returns-2
 unfolding property
-returns-2 c i l h few =
-    c .operand-of2 .ensures ∙ ap (λ (o : OptionValue). operandOf (carried (optional o))) (c .before .property .ensures) ∙ sym (l .by-property (c .before .before .if1 .left) h few)
+returns-2 c i l h =
+    c .operand-of2 .ensures ∙ ap (λ (o : OptionValue). operandOf (carried (optional o))) (c .before .property .ensures) ∙ sym (l .by-property (c .before .before .if1 .left) h)
 
 pub load-operand-spec : {M : Type 1} → statement M
 load-operand-spec =

@@ -9,9 +9,9 @@ use Rattle.value.specs.declared.Value.{Value}
 use Rattle.records.specs.Access.{wiresOf, noWire}
 use Rattle.model.specs.Inputs.{carried}
 use Rattle.state.specs.Held.{knownOf}
-use Rattle.inputs.specs.Inputs.{Locates}
-use Rattle.inputs.specs.declared.Located.{Located}
-use Rattle.inputs.proofs.Locations.{unknown-source, at-source}
+use Rattle.inputs.specs.Inputs.{LooksUp}
+use Rattle.inputs.specs.declared.Lookup.{Lookup}
+use Rattle.inputs.proofs.Locations.{finds, finds-none, unknown-source, at-source}
 use borrow.Author.Needs.{needs}
 use Rattle.inputs.proofs.locate_source.Statement.{statement}
 use Rattle.inputs.proofs.locate_source.Tie as tie
@@ -32,16 +32,13 @@ element-copy-out-kind : tie.Need-element-copy-out-kind
 element-copy-out-kind c = rw (source-is c) (c .before .before .before .pre .1)
 
 -- what is located at the node that was read is located at the wire's source
-at-node : (c : tie.After-wire) (o : Option Value) {l : Located} → Locates (carried (knownOf (now (c .before .before .before .args .kinds)) (now (c .before .before .before .args .words)) (c .wire .result .source .«node_id»))) o (knownOf (now (c .before .before .before .args .kinds)) (now (c .before .before .before .args .words))) l
-    → Locates (carried (knownOf (now (c .before .before .before .args .kinds)) (now (c .before .before .before .args .words)) (getD (wiresOf (now (c .before .before .before .args .wires))) (c .before .before .before .args .wire) noWire .source .«node_id»))) o (knownOf (now (c .before .before .before .args .kinds)) (now (c .before .before .before .args .words))) l
-at-node c o {l} f = rw (← source-is c) f
-
-nowhere-requires : tie.Need-nowhere-requires
-nowhere-requires c κs = search needs
+at-node : (c : tie.After-wire) (o : Option Value) {r : Lookup} → LooksUp (carried (knownOf (now (c .before .before .before .args .kinds)) (now (c .before .before .before .args .words)) (c .wire .result .source .«node_id»))) o (knownOf (now (c .before .before .before .args .kinds)) (now (c .before .before .before .args .words))) r
+    → LooksUp (carried (knownOf (now (c .before .before .before .args .kinds)) (now (c .before .before .before .args .words)) (getD (wiresOf (now (c .before .before .before .args .wires))) (c .before .before .before .args .wire) noWire .source .«node_id»))) o (knownOf (now (c .before .before .before .args .kinds)) (now (c .before .before .before .args .words))) r
+at-node c o {r} f = rw (← source-is c) f
 
 returns : tie.Need-returns
 returns c o =
-    rw (c .nowhere .ensures) (at-node (c .before .before .before) o (unknown-source _ _ _ (c .before .if1 .taken) o))
+    at-node (c .before .before) o (finds-none (unknown-source _ _ _ (c .if1 .taken)))
 
 variant-of-requires : tie.Need-variant-of-requires
 variant-of-requires c κs = search needs
@@ -51,7 +48,7 @@ first-word-requires c κs = rw (source-is (c .before .before .before)) (c .befor
 
 returns-2 : tie.Need-returns-2
 returns-2 c o =
-    rw (c .before .variant-of .ensures, c .first-word .ensures) (at-node (c .before .before .before .before) o (at-source _ _ _ (rw (source-is (c .before .before .before .before)) (c .before .before .before .before .before .before .before .pre .1)) (c .before .before .if1 .left) o))
+    rw (c .before .variant-of .ensures, c .first-word .ensures) (at-node (c .before .before .before .before) o (finds (at-source _ _ _ (rw (source-is (c .before .before .before .before)) (c .before .before .before .before .before .before .before .pre .1)) (c .before .before .if1 .left) o)))
 
 pub locate-source-spec : {M : Type 1} → statement M
 locate-source-spec =
@@ -60,7 +57,6 @@ locate-source-spec =
     wide-number-requires
     wire-requires
     element-copy-out-kind
-    nowhere-requires
     returns
     variant-of-requires
     first-word-requires

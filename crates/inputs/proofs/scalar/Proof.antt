@@ -22,7 +22,7 @@ from-bits-requires-2 : tie.Need-from-bits-requires-2
 from-bits-requires-2 c κs = search needs
 
 returns-2 : tie.Need-returns-2
-returns-2 c = rw (c .from-bits2 .ensures, c .before .if2 .taken) refl
+returns-2 c = rw (c .from-bits2 .ensures .0, c .before .if2 .taken) refl
 
 returns-3 : tie.Need-returns-3
 returns-3 c =

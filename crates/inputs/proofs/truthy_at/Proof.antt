@@ -8,7 +8,7 @@ use Rattle.inputs.proofs.truthy_at.Statement.{statement}
 use Rattle.inputs.proofs.truthy_at.Tie as tie
 
 returns : tie.Need-returns
-returns c i l few = ap truthyOf (sym (unwired-operand l (c .if1 .taken)))
+returns c i l = ap truthyOf (sym (unwired-operand l (c .if1 .taken)))
 
 load-operand-requires : tie.Need-load-operand-requires
 load-operand-requires c κs = search needs
@@ -17,7 +17,7 @@ truthy-requires : tie.Need-truthy-requires
 truthy-requires c κs = search needs
 
 returns-2 : tie.Need-returns-2
-returns-2 c i l few = c .truthy .ensures ∙ ap truthyOf (c .before .load-operand .ensures i l (omega (arith, c .before .before .if1 .left)) few)
+returns-2 c i l = c .truthy .ensures ∙ ap truthyOf (c .before .load-operand .ensures i l (omega (arith, c .before .before .if1 .left)))
 
 pub truthy-at-spec : {M : Type 1} → statement M
 truthy-at-spec = tie.close (tie.spec returns load-operand-requires truthy-requires returns-2)

@@ -11,10 +11,10 @@ wires-requires : tie.Need-wires-requires
 wires-requires c κs = c .before .pre .0
 
 link-feeds-requires : tie.Need-link-feeds-requires
-link-feeds-requires c κs = bounded-at _ _ (c .before .before .before .before .pre .0) (c .before .before .wires .ensures)
+link-feeds-requires c κs = bounded-at _ _ (c .before .before .before .before .pre .0) (c .before .before .wires .ensures .1)
 
 link-consumers-requires : tie.Need-link-consumers-requires
-link-consumers-requires c κs = bounded-at _ _ (c .before .before .before .before .before .before .before .pre .0) (c .before .before .before .before .before .wires .ensures)
+link-consumers-requires c κs = bounded-at _ _ (c .before .before .before .before .before .before .before .pre .0) (c .before .before .before .before .before .wires .ensures .1)
 
 run-worklist-requires : tie.Need-run-worklist-requires
 run-worklist-requires c κs =
@@ -25,9 +25,9 @@ run-worklist-requires c κs =
       record {
         accepts = p .0;
         properties = p .1;
-        wires-part = w .wires .ensures;
-        feeds = subst (λ (ws : List Wire). Feeds ws (f .link-feeds .last .1 .1 .0) (f .link-feeds .last .1 .1 .1 .0)) (w .wires .ensures) (f .link-feeds .ensures);
-        consumers = subst (λ (ws : List Wire). Consumers ws (k .link-consumers .last .1 .1 .0) (k .link-consumers .last .1 .1 .1 .0)) (w .wires .ensures) (k .link-consumers .ensures);
+        wires-part = w .wires .ensures .1;
+        feeds = subst (λ (ws : List Wire). Feeds ws (f .link-feeds .last .1 .1 .0) (f .link-feeds .last .1 .1 .1 .0)) (w .wires .ensures .1) (f .link-feeds .ensures);
+        consumers = subst (λ (ws : List Wire). Consumers ws (k .link-consumers .last .1 .1 .0) (k .link-consumers .last .1 .1 .1 .0)) (w .wires .ensures .1) (k .link-consumers .ensures);
       },
       p .2,
     )

@@ -11,7 +11,7 @@ index-rows-requires : tie.Need-index-rows-requires
 index-rows-requires c κs = search needs
 
 run-requires : tie.Need-run-requires
-run-requires c κs = (reads-at (c .before .before .before .before .before .before .before .before .before .before .pre .0) (c .before .before .before .before .before .before .before .rows .ensures) (c .before .before .before .before .before .index-rows .ensures), c .before .before .before .before .before .before .before .before .before .before .pre .0 .consumers, c .before .before .before .before .before .before .before .before .before .before .pre .1)
+run-requires c κs = (reads-at (c .before .before .before .before .before .before .before .before .before .before .pre .0) (c .before .before .before .before .before .before .before .rows .ensures .1) (c .before .before .before .before .before .index-rows .ensures), c .before .before .before .before .before .before .before .before .before .before .pre .0 .consumers, c .before .before .before .before .before .before .before .before .before .before .pre .1)
 
 returns : tie.Need-returns
 returns c = record { accepts = c .before .before .before .before .before .before .before .before .before .before .before .pre .0 .accepts; finished = c .run .ensures }

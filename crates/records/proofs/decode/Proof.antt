@@ -102,10 +102,10 @@ read-same-requires c κs =
     )
 
 loop-less : tie.Need-loop-less Inv-loop μ-loop
-loop-less c = omega (arith, c .before .before .before .before .before .before .before .before .before .before .before .before .before .loop-test .taken, c .before .read-same .ensures .0)
+loop-less c = omega (arith, c .before .before .before .before .before .before .before .before .before .before .before .before .before .loop-test .taken, c .before .read-same .ensures .0 .0)
 
 loop-again : tie.Need-loop-again Inv-loop μ-loop
-loop-again c = c .before .read-same .ensures .1
+loop-again c = c .before .read-same .ensures .0 .1
 
 returns-3 : tie.Need-returns-3 Inv-loop μ-loop
 returns-3 c = reports-accepted _ (c .before .before .if1 .left) _ _ _ _ (c .before .loop .inv) (c .loop-test .left)

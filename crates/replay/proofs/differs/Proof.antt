@@ -48,7 +48,7 @@ returns-5 c = (
   omega arith,
   (
     λ e. same-numbers (c .before .before .before .before .before .before .if1 .left) (c .before .before .before .before .before .if2 .left) (c .before .before .before .before .if3 .left) (c .before .before .before .if4 .left) ∙ c .before .before .before .before .before .before .before .before .before .mezburiko-fold .ensures .0,
-    λ e. sym (c .before .same .ensures .0 (c .if5 .taken)) ∙ c .before .before .before .before .before .before .before .before .before .mezburiko-fold .ensures .1,
+    λ e. sym (c .before .same .ensures .0 (c .if5 .taken)) ∙ c .before .before .before .before .before .before .before .before .before .mezburiko-fold .ensures .1 .0,
   ),
 )
 

@@ -1,7 +1,7 @@
 -- `semantics::compare` meets its contract.
 use Prim.Native.Nat.{ℕ, zero, suc, _+_, _-_, _≤_}
 use mathlib.Core.Path.{_≡_, _∙_, refl, subst}
-use mathlib.Core.Bool.{cond, _||_}
+use mathlib.Core.Bool.{cond, not, _||_}
 use native.Mathlib.Omega.{arith}
 use lib.Dec.{eqb, leb}
 use Rattle.value.specs.declared.Operand.{Operand}
@@ -15,7 +15,7 @@ use Rattle.semantics.proofs.compare.Tie as tie
 module _ (x y z : Operand) where
   -- what `equality` and `order` give for the Bools that the code makes of a class
   abbrev byEquality : ℕ → OptionValue
-  byEquality n = cond (eqb n 6) (equalOf x y) (notEqualOf x y)
+  byEquality n = cond (not (eqb n 7)) (equalOf x y) (notEqualOf x y)
 
   abbrev byOrder : ℕ → OptionValue
   byOrder n =

@@ -5,7 +5,8 @@ use native.Mathlib.Omega.{arith}
 use lib.ListN.{List·getD-eq-default}
 use Rattle.value.specs.declared.Operand.{Operand}
 use Rattle.value.specs.declared.OptionValue.{OptionValue}
-use Rattle.semantics.specs.Eval.{Rule, rules, none, evalOf}
+use Rattle.semantics.specs.Eval.{Rule, rules, noGate, evalOf}
+use Rattle.semantics.proofs.Starred.{starred-hold}
 use borrow.Author.Needs.{needs}
 use Rattle.semantics.proofs.eval_in.Statement.{statement}
 use Rattle.semantics.proofs.eval_in.Tie as tie
@@ -21,55 +22,55 @@ before (suc (suc (suc (suc (suc zero))))) h x y z = refl
 before (suc (suc (suc (suc (suc (suc n)))))) h x y z = let f : ⊥ = omega arith in absurd f
 
 past : (n : ℕ) → 42 ≤ n → (x y z : Operand) → OptionValue.None ≡ evalOf n x y z
-past n h x y z = sym (ap (λ (r : Rule). r x y z) (List·getD-eq-default rules none {n = n} h))
+past n h x y z = sym (ap (λ (r : Rule). r x y z) (List·getD-eq-default rules noGate {n = n} h))
 
 returns : tie.Need-returns
-returns c = before (c .before .before .before .args .class) (omega arith) (c .before .before .before .args .a) (c .before .before .before .args .b) (c .before .before .before .args .c)
+returns c = (before (c .before .before .before .args .class) (omega arith) (c .before .before .before .args .a) (c .before .before .before .args .b) (c .before .before .before .args .c), starred-hold)
 
 compare-requires : tie.Need-compare-requires
 compare-requires c κs = search needs
 
 returns-2 : tie.Need-returns-2
-returns-2 c = search needs
+returns-2 c = (search needs, starred-hold)
 
 logical-requires : tie.Need-logical-requires
 logical-requires c κs = search needs
 
 returns-3 : tie.Need-returns-3
-returns-3 c = search needs
+returns-3 c = (search needs, starred-hold)
 
 math-requires : tie.Need-math-requires
 math-requires c κs = search needs
 
 returns-4 : tie.Need-returns-4
-returns-4 c = search needs
+returns-4 c = (search needs, starred-hold)
 
 extended-math-requires : tie.Need-extended-math-requires
 extended-math-requires c κs = search needs
 
 returns-5 : tie.Need-returns-5
-returns-5 c = search needs
+returns-5 c = (search needs, starred-hold)
 
 rounding-requires : tie.Need-rounding-requires
 rounding-requires c κs = search needs
 
 returns-6 : tie.Need-returns-6
-returns-6 c = search needs
+returns-6 c = (search needs, starred-hold)
 
 bitwise-logic-requires : tie.Need-bitwise-logic-requires
 bitwise-logic-requires c κs = search needs
 
 returns-7 : tie.Need-returns-7
-returns-7 c = search needs
+returns-7 c = (search needs, starred-hold)
 
 shifts-requires : tie.Need-shifts-requires
 shifts-requires c κs = search needs
 
 returns-8 : tie.Need-returns-8
-returns-8 c = search needs
+returns-8 c = (search needs, starred-hold)
 
 returns-9 : tie.Need-returns-9
-returns-9 c = past (c .before .before .before .before .args .class) (omega arith) (c .before .before .before .before .args .a) (c .before .before .before .before .args .b) (c .before .before .before .before .args .c)
+returns-9 c = (past (c .before .before .before .before .args .class) (omega arith) (c .before .before .before .before .args .a) (c .before .before .before .before .args .b) (c .before .before .before .before .args .c), starred-hold)
 
 pub eval-in-spec : {M : Type 1} → statement M
 eval-in-spec =

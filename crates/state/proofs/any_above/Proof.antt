@@ -2,12 +2,13 @@
 use Prim.Native.Nat.{ℕ, _+_, _-_, _≤_, _<_}
 use native.Mathlib.Omega.{arith}
 use native.Mathlib.Decide.{ℕ-discrete}
-use mathlib.Core.Path.{_≡_}
-use mathlib.Core.Bool.{Bool, false, _||_}
+use mathlib.Core.Path.{_≡_, refl}
+use mathlib.Core.Bool.{Bool, true, false, false≢true, _||_}
 use mathlib.Core.List.{List}
 use lib.Dec.{ltb}
 use lib.ListN.{getD}
-use borrow.Author.Tests.{ltb-false}
+use borrow.Author.Tests.{ltb-false, ltb-true}
+use Rattle.state.specs.Held.{Above}
 use Rattle.model.proofs.Lists.{or-false-left, or-false-right}
 use Rattle.state.proofs.any_above.Statement.{statement}
 use Rattle.state.proofs.any_above.Tie as tie
@@ -20,16 +21,21 @@ none-more bound bytes found node inv e m l = pick (ℕ-discrete m node)
     pick (yes q) = rw q (ltb-false bound (getD bytes node 0) (or-false-right found _ e))
     pick (no q) = inv (or-false-left found _ e) m (omega arith)
 
+-- one of the first nodes is above it, or the next is
+one-more : (bound : ℕ) (bytes : List ℕ) (found : Bool) (node : ℕ) → (found ≡ true → Above bytes node bound) → (found || ltb bound (getD bytes node 0)) ≡ true → Above bytes (node + 1) bound
+one-more bound bytes true node inv e = let a = inv refl in record { node = a .node; within = omega (arith, a .within); above = a .above }
+one-more bound bytes false node inv e = record { node = node; within = omega arith; above = ltb-true bound (getD bytes node 0) e }
+
 abbrev Inv-loop : tie.InvT-loop
 Inv-loop bytes nodes bound found₀ node₀ found node =
-    (found ≡ false → (m : ℕ) → m < node → getD bytes m 0 ≤ bound)
+    (node ≤ nodes) × (found ≡ false → (m : ℕ) → m < node → getD bytes m 0 ≤ bound) × (found ≡ true → Above bytes node bound)
 
 abbrev μ-loop : tie.MeasureT-loop
 μ-loop bytes nodes bound found₀ node₀ found node =
     nodes - node
 
 loop-holds : tie.Need-loop-holds Inv-loop μ-loop
-loop-holds c = λ e m l. absurd (omega arith)
+loop-holds c = (omega arith, λ e m l. absurd (omega arith), λ e. absurd (false≢true e))
 
 element-copy-out-found : tie.Need-element-copy-out-found Inv-loop μ-loop
 element-copy-out-found c = omega arith
@@ -41,10 +47,16 @@ loop-less : tie.Need-loop-less Inv-loop μ-loop
 loop-less c = omega arith
 
 loop-again : tie.Need-loop-again Inv-loop μ-loop
-loop-again c = none-more (c .before .before .before .args .bound) (c .before .before .before .args .bytes .now) (c .before .before .loop .found) (c .before .before .loop .node) (c .before .before .loop .inv)
+loop-again c =
+    let b = c .before .before .before .args .bound in
+    let l = c .before .before .before .args .bytes .now in
+    let i = c .before .before .loop .inv in
+    (omega arith, none-more b l (c .before .before .loop .found) (c .before .before .loop .node) (i .1), one-more b l (c .before .before .loop .found) (c .before .before .loop .node) (i .2))
 
 returns : tie.Need-returns Inv-loop μ-loop
-returns c = λ e m l. c .before .loop .inv e m (omega arith)
+returns c =
+    let i = c .before .loop .inv in
+    (λ e m l. i .1 e m (omega arith), λ e. let a = i .2 e in record { node = a .node; within = omega (arith, a .within); above = a .above })
 
 pub any-above-spec : {M : Type 1} → statement M
 any-above-spec =

@@ -13,19 +13,19 @@ from-bits-requires-3 : tie.Need-from-bits-requires-3
 from-bits-requires-3 c κs = tt
 
 returns : tie.Need-returns
-returns c = simp (eq-eqb _ _ (c .if1 .taken), c .before .before .before .from-bits .ensures, c .before .before .from-bits2 .ensures, c .before .from-bits3 .ensures)
+returns c = simp (eq-eqb _ _ (c .if1 .taken), c .before .before .before .from-bits .ensures .0, c .before .before .from-bits2 .ensures .0, c .before .from-bits3 .ensures .0)
 
 returns-2 : tie.Need-returns-2
-returns-2 c = simp (ne-eqb _ _ (c .before .if1 .left), eq-eqb _ _ (c .if2 .taken), c .before .before .before .before .from-bits .ensures, c .before .before .before .from-bits2 .ensures, c .before .before .from-bits3 .ensures)
+returns-2 c = simp (ne-eqb _ _ (c .before .if1 .left), eq-eqb _ _ (c .if2 .taken), c .before .before .before .before .from-bits .ensures .0, c .before .before .before .from-bits2 .ensures .0, c .before .before .from-bits3 .ensures .0)
 
 from-bits-requires-4 : tie.Need-from-bits-requires-4
 from-bits-requires-4 c κs = tt
 
 returns-3 : tie.Need-returns-3
-returns-3 c = simp (ne-eqb _ _ (c .before .before .before .if1 .left), ne-eqb _ _ (c .before .before .if2 .left), eq-eqb _ _ (c .if3 .taken), c .before .before .before .before .before .before .from-bits .ensures, c .before .before .before .before .before .from-bits2 .ensures, c .before .before .before .before .from-bits3 .ensures, c .before .from-bits4 .ensures)
+returns-3 c = simp (ne-eqb _ _ (c .before .before .before .if1 .left), ne-eqb _ _ (c .before .before .if2 .left), eq-eqb _ _ (c .if3 .taken), c .before .before .before .before .before .before .from-bits .ensures .0, c .before .before .before .before .before .from-bits2 .ensures .0, c .before .before .before .before .from-bits3 .ensures .0, c .before .from-bits4 .ensures .0)
 
 returns-4 : tie.Need-returns-4
-returns-4 c = simp (ne-eqb _ _ (c .before .before .before .if1 .left), ne-eqb _ _ (c .before .before .if2 .left), ne-eqb _ _ (c .if3 .left), c .before .before .before .before .before .before .from-bits .ensures, c .before .before .before .before .before .from-bits2 .ensures, c .before .before .before .before .from-bits3 .ensures, c .before .from-bits4 .ensures)
+returns-4 c = simp (ne-eqb _ _ (c .before .before .before .if1 .left), ne-eqb _ _ (c .before .before .if2 .left), ne-eqb _ _ (c .if3 .left), c .before .before .before .before .before .before .from-bits .ensures .0, c .before .before .before .before .before .from-bits2 .ensures .0, c .before .before .before .before .from-bits3 .ensures .0, c .before .from-bits4 .ensures .0)
 
 pub composite-of-spec : {M : Type 1} → statement M
 composite-of-spec =

@@ -23,7 +23,7 @@ from-bits-requires-2 c κs = tt
 
 returns-2 : tie.Need-returns-2
 unfolding heldValue
-returns-2 c = simp (ne-eqb _ _ (c .before .before .if1 .left), eq-eqb _ _ (c .before .if2 .taken), c .from-bits2 .ensures)
+returns-2 c = simp (ne-eqb _ _ (c .before .before .if1 .left), eq-eqb _ _ (c .before .if2 .taken), c .from-bits2 .ensures .0)
 
 returns-3 : tie.Need-returns-3
 unfolding heldValue

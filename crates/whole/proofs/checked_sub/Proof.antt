@@ -3,7 +3,7 @@ use borrow.Author.Needs.{needs}
 use lib.IntN.{_-ℤ_}
 use Rattle.whole.specs.Checked.{inRange}
 use Rattle.whole.proofs.Laws.{readBack}
-use Rattle.whole.proofs.Checked.{fits, some, none, difference}
+use Rattle.whole.proofs.Checked.{in-word, inside, outside, difference}
 use Rattle.whole.proofs.checked_sub.Statement.{statement}
 use Rattle.whole.proofs.checked_sub.Tie as tie
 
@@ -14,13 +14,13 @@ sum-in-range-requires : tie.Need-sum-in-range-requires
 sum-in-range-requires c κs = search needs
 
 sub-t6 : tie.Need-sub-t6
-sub-t6 c = fits _-ℤ_ (c .before .before .fits .a) (c .before .before .fits .b) (test (c .before)) (c .if1 .taken)
+sub-t6 c = in-word _-ℤ_ (c .before .before .fits .a) (c .before .before .fits .b) (test (c .before)) (c .if1 .taken)
 
 returns : tie.Need-returns
-returns c = some _-ℤ_ (c .before .before .fits .a) (c .before .before .fits .b) (test (c .before)) (c .if1 .taken)
+returns c = inside _-ℤ_ (c .before .before .fits .a) (c .before .before .fits .b) (test (c .before)) (c .if1 .taken)
 
 returns-2 : tie.Need-returns-2
-returns-2 c = none _-ℤ_ (c .before .before .fits .a) (c .before .before .fits .b) (test (c .before)) (c .if1 .left)
+returns-2 c = outside _-ℤ_ (c .before .before .fits .a) (c .before .before .fits .b) (test (c .before)) (c .if1 .left)
 
 pub checked-sub-spec : {M : Type 1} → statement M
 checked-sub-spec = tie.close (tie.spec sum-in-range-requires sub-t6 returns returns-2)

@@ -6,9 +6,9 @@ use borrow.Author.Needs.{needs}
 use denote.Ref.{now}
 use Rattle.ir.specs.declared.Wire.{Wire}
 use Rattle.records.specs.Access.{wiresOf, noWire}
+use Rattle.model.proofs.Each.{wires-size}
 use Rattle.rewrite.specs.Tallied.{keptWire}
 use Rattle.emit.proofs.Copying.{wire-goes, wire-stays}
-use Rattle.emit.proofs.Fanning.{wires-size}
 use Rattle.emit.proofs.Writing.{written-one, written-nothing}
 use Rattle.emit.proofs.kept.write_wire.Statement.{statement}
 use Rattle.emit.proofs.kept.write_wire.Tie as tie
@@ -38,7 +38,7 @@ same-length : tie.Need-same-length
 same-length c = search needs
 
 returns-2 : tie.Need-returns-2
-returns-2 c = written-one (wire-stays (now (c .before .before .before .before .before .before .before .before .before .before .before .args .actions)) (c .before .before .before .before .before .before .before .before .wire .ensures) (c .before .before .before .before .before .if1 .left) (c .before .before .before .before .source-port .ensures)) (c .before .before .write-wire .ensures)
+returns-2 c = written-one (wire-stays (now (c .before .before .before .before .before .before .before .before .before .before .before .args .actions)) (c .before .before .before .before .before .before .before .before .wire .ensures) (c .before .before .before .before .before .if1 .left) (c .before .before .before .before .source-port .ensures)) (c .before .before .write-wire .ensures .0)
 
 pub write-wire-spec : {M : Type 1} → statement M
 write-wire-spec =

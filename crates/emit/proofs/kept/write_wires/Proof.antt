@@ -16,7 +16,7 @@ same-length : tie.Need-same-length
 same-length c = search needs
 
 returns : tie.Need-returns
-returns c = copied (c .before .before .before .before .before .before .before .before .pre) (now (c .before .before .before .before .before .before .before .before .args .actions)) (c .before .before .before .before .before .any-above .ensures (not-true _ (c .before .before .before .before .if1 .taken))) (c .before .before .copy-wires .ensures)
+returns c = copied (c .before .before .before .before .before .before .before .before .pre) (now (c .before .before .before .before .before .before .before .before .args .actions)) (c .before .before .before .before .before .any-above .ensures .0 (not-true _ (c .before .before .before .before .if1 .taken))) (c .before .before .copy-wires .ensures)
 
 write-each-requires : tie.Need-write-each-requires
 write-each-requires c κs = c .before .before .before .before .before .pre

@@ -12,7 +12,7 @@ from-bits-requires : tie.Need-from-bits-requires
 from-bits-requires c κs = search needs
 
 returns : tie.Need-returns
-returns c = c .from-bits .ensures ∙ ap (ofBits binary64) (c .before .read-u64 .ensures)
+returns c = c .from-bits .ensures .0 ∙ ap (ofBits binary64) (c .before .read-u64 .ensures)
 
 pub read-float-spec : {M : Type 1} → statement M
 read-float-spec = tie.close (tie.spec read-u64-requires from-bits-requires returns)

@@ -5,6 +5,7 @@ use mir.Syntax.{w64}
 use mir.Facts.{toZ-ofZ}
 use borrow.Author.Needs.{needs}
 use Rattle.encoding.specs.Numbers.{bytesOf}
+use Rattle.encoding.proofs.ReadBack.{written-back}
 use Rattle.encoding.proofs.values.write_bytes.Statement.{statement}
 use Rattle.encoding.proofs.values.write_bytes.Tie as tie
 
@@ -69,43 +70,43 @@ returns : tie.Need-returns
 returns c =
     let n = c .before .before .before .before .before .before .v .given .0 .0 in
     let bits : c .before .before .before .before .to-bits .result ≡ ofZ w64 n = c .before .before .before .before .to-bits .ensures ∙ ap (ofZ w64) (toZ-ofZ {w = w64} {z = n} (search needs)) in
-    rw (c .before .before .before .before .before .before .v .given .1) (rw bits at (c .before .before .write-u64 .ensures))
+    written-back (c .before .before .before .before .before .before .v .given .1) (search needs) (c .before .before .before .before .before .before .before .before .before .pre) (rw bits at (c .before .before .write-u64 .ensures))
 
 same-length-2 : tie.Need-same-length-2
 same-length-2 c = search needs
 
 returns-2 : tie.Need-returns-2
-returns-2 c = rw (c .before .before .before .before .before .v2 .given .1) (c .before .before .write-float .ensures)
+returns-2 c = written-back (c .before .before .before .before .before .v2 .given .1) (search needs) (c .before .before .before .before .before .before .before .before .pre) (c .before .before .write-float .ensures)
 
 same-length-3 : tie.Need-same-length-3
 same-length-3 c = search needs
 
 returns-3 : tie.Need-returns-3
-returns-3 c = rw (c .before .before .before .before .before .before .v3 .given .1) (rw (c .before .before .before .before .bool-byte .ensures) at (c .before .before .write-byte .ensures))
+returns-3 c = written-back (c .before .before .before .before .before .before .v3 .given .1) (search needs) (c .before .before .before .before .before .before .before .before .before .pre) (rw (c .before .before .before .before .bool-byte .ensures) at (c .before .before .write-byte .ensures))
 
 same-length-4 : tie.Need-same-length-4
 same-length-4 c = search needs
 
 returns-4 : tie.Need-returns-4
-returns-4 c = rw (c .before .before .before .before .before .v4 .given .1) (c .before .before .write-three .ensures)
+returns-4 c = written-back (c .before .before .before .before .before .v4 .given .1) (search needs) (c .before .before .before .before .before .before .before .before .pre) (c .before .before .write-three .ensures)
 
 same-length-5 : tie.Need-same-length-5
 same-length-5 c = search needs
 
 returns-5 : tie.Need-returns-5
-returns-5 c = rw (c .before .before .before .before .before .v5 .given .1) (c .before .before .write-three2 .ensures)
+returns-5 c = written-back (c .before .before .before .before .before .v5 .given .1) (search needs) (c .before .before .before .before .before .before .before .before .pre) (c .before .before .write-three2 .ensures)
 
 same-length-6 : tie.Need-same-length-6
 same-length-6 c = search needs
 
 returns-6 : tie.Need-returns-6
-returns-6 c = rw (c .before .before .before .before .before .v6 .given .1) (c .before .before .write-four .ensures)
+returns-6 c = written-back (c .before .before .before .before .before .v6 .given .1) (search needs) (c .before .before .before .before .before .before .before .before .pre) (c .before .before .write-four .ensures)
 
 same-length-7 : tie.Need-same-length-7
 same-length-7 c = search needs
 
 returns-7 : tie.Need-returns-7
-returns-7 c = rw (c .before .before .before .before .before .v7 .given .1) (c .before .before .write-four2 .ensures)
+returns-7 c = written-back (c .before .before .before .before .before .v7 .given .1) (search needs) (c .before .before .before .before .before .before .before .before .pre) (c .before .before .write-four2 .ensures)
 
 pub write-bytes-spec : {M : Type 1} → statement M
 write-bytes-spec =

@@ -1,6 +1,7 @@
 -- `encoding::values::write_value` meets its contract.
 use Prim.Native.Nat.{_+_, _≤_}
 use native.Mathlib.Omega.{arith}
+use mathlib.Core.Path.{_≡_}
 use mathlib.Core.List.{[], _∷_, _++_}
 use lib.ListN.{length}
 use denote.Ref.{now}
@@ -8,6 +9,7 @@ use borrow.Author.Needs.{needs}
 use Rattle.encoding.specs.Values.{valueBytes}
 use Rattle.encoding.specs.Numbers.{bytesOf}
 use Rattle.encoding.proofs.Splices.{written-length, written-more}
+use Rattle.encoding.proofs.ReadBack.{property-back}
 use Rattle.encoding.proofs.values.write_value.Statement.{statement}
 use Rattle.encoding.proofs.values.write_value.Tie as tie
 
@@ -40,11 +42,17 @@ fits-2 : (c : tie.After-slice-known4) → c .before .before .before .before .bef
 unfolding bytesOf
 fits-2 c = let v = c .before .before .before .before .before .before .before .before .before .before .write-head .ensures in omega (arith, v .past, written-length v (omega arith), fits c)
 
+past-port : (c : tie.After-slice-known4) → c .before .before .before .before .before .before .write-byte .result ≡ c .before .before .before .before .before .before .before .before .before .before .before .before .before .before .args .at + 4
+unfolding bytesOf
+past-port c = omega (arith, c .before .before .before .before .before .before .before .before .before .before .write-head .ensures .past, c .before .before .before .before .before .before .write-byte .ensures .past)
+
 returns : tie.Need-returns
 returns c =
     let v = c .before .before .before .before .before .before .before .before .before .before .write-head .ensures in
     let w = c .before .before .before .before .before .before .write-byte .ensures in
-    rw (c .before .before .before .before .before .before .before .before .before .before .before .before .kind-of .ensures) at (written-more v (fits c) (written-more w (fits-2 c) (c .before .before .write-bytes .ensures)))
+    let given = c .before .before .write-bytes .ensures in
+    let all = rw (c .before .before .before .before .before .before .before .before .before .before .before .before .kind-of .ensures) at (written-more v (fits c) (written-more w (fits-2 c) (given .0))) in
+    (all, property-back (c .before .before .before .before .before .before .before .before .before .before .before .before .before .before .pre) all (past-port c) (given .1))
 
 pub write-value-spec : {M : Type 1} → statement M
 write-value-spec =

@@ -1,9 +1,11 @@
 -- `encoding::wires::write_wire` meets its contract.
 use native.Mathlib.Omega.{arith}
 use lib.ListN.{length-set}
+use denote.Ref.{now}
 use borrow.Author.Needs.{needs}
 use Rattle.encoding.specs.Numbers.{bytesOf}
 use Rattle.encoding.proofs.Splices.{stored-7}
+use Rattle.encoding.proofs.ReadBack.{wire-back}
 use Rattle.encoding.proofs.wires.write_wire.Statement.{statement}
 use Rattle.encoding.proofs.wires.write_wire.Tie as tie
 
@@ -66,7 +68,7 @@ same-length c = search needs
 
 returns : tie.Need-returns
 unfolding bytesOf
-returns c = stored-7 _ _ _ _ _ _ _ _ _ (search needs)
+returns c = (stored-7 _ _ _ _ _ _ _ _ _ (search needs), wire-back (c .args .wire) {l = now (c .args .out)} (c .pre) (stored-7 _ _ _ _ _ _ _ _ _ (c .pre)))
 
 pub write-wire-spec : {M : Type 1} → statement M
 write-wire-spec =

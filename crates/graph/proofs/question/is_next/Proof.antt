@@ -6,12 +6,12 @@ use mathlib.Core.Path.{_≡_, _∙_, sym, ap}
 use lib.Dec.{eqb}
 use lib.ListN.{length}
 use denote.Ref.{now}
-use borrow.Author.Tests.{not-false, eqb-true}
+use borrow.Author.Tests.{not-true, not-false, eqb-true}
 use borrow.Author.Needs.{needs}
 use Rattle.encoding.specs.Numbers.{byte}
 use Rattle.graph.specs.Layout.{sizeBy}
 use Rattle.graph.proofs.Roles.{size-by, and-left, and-right}
-use Rattle.graph.proofs.Asked.{next-of}
+use Rattle.graph.proofs.Asked.{next-of, next-whole, next-tests, next-first}
 use Rattle.graph.proofs.question.is_next.Statement.{statement}
 use Rattle.graph.proofs.question.is_next.Tie as tie
 
@@ -35,7 +35,9 @@ sub-if1 : tie.Need-sub-if1
 sub-if1 c = search needs
 
 returns : tie.Need-returns
-returns c = λ e. absurd (false≢true e)
+returns c =
+    let b = c .before .before in
+    (λ e. absurd (false≢true e), λ g h n. absurd (omega (arith, c .if1 .taken, next-whole (b .pre .0) (b .pre .1) g h n)))
 
 is-listed-requires : tie.Need-is-listed-requires
 is-listed-requires c κs = by-role c
@@ -50,7 +52,9 @@ has-room-requires : tie.Need-has-room-requires
 has-room-requires c κs = search needs
 
 returns-2 : tie.Need-returns-2
-returns-2 c = λ e. absurd (false≢true e)
+returns-2 c =
+    let b = c .before .before .before .before .before .before .before in
+    (λ e. absurd (false≢true e), λ g h n. absurd (false≢true (sym (not-true _ (c .if2 .taken)) ∙ next-tests (b .pre .0) (b .pre .1) g h n (c .before .before .before .before .is-listed .ensures) (c .before .before .before .has-nodes .ensures) (c .before .has-room .ensures))))
 
 is-first-requires : tie.Need-is-first-requires
 is-first-requires c κs =
@@ -63,9 +67,10 @@ is-first-requires c κs =
 
 returns-3 : tie.Need-returns-3
 returns-3 c =
-    λ e.
-    let b = c .before .before .before .before .before .before .before .before in
-    next-of (b .pre .0) (b .pre .1) (whole (c .before .before .before .before .before .before)) (eqb-true _ _ (tests (c .before) .0)) (sym (c .before .before .before .before .before .is-listed .ensures) ∙ tests (c .before) .1) (sym (c .before .before .before .before .has-nodes .ensures) ∙ tests (c .before) .2) (sym (c .before .before .has-room .ensures) ∙ tests (c .before) .3) (λ g h. sym (c .is-first .ensures g h) ∙ e)
+    let b = c .before .before .before .before .before .before .before .before in (
+      λ e. next-of (b .pre .0) (b .pre .1) (whole (c .before .before .before .before .before .before)) (eqb-true _ _ (tests (c .before) .0)) (sym (c .before .before .before .before .before .is-listed .ensures) ∙ tests (c .before) .1) (sym (c .before .before .before .before .has-nodes .ensures) ∙ tests (c .before) .2) (sym (c .before .before .has-room .ensures) ∙ tests (c .before) .3) (λ g h. sym (c .is-first .ensures g h) ∙ e),
+      λ g h n. c .is-first .ensures g h ∙ next-first (b .pre .0) (b .pre .1) g h n,
+    )
 
 pub is-next-spec : {M : Type 1} → statement M
 is-next-spec =

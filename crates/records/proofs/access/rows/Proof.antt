@@ -1,10 +1,19 @@
 -- `records::access::rows` meets its contract.
-use Prim.Native.Nat.{_*_, _-_}
+use Prim.Native.Nat.{ℕ, _*_, _-_}
 use native.Mathlib.Omega.{arith}
-use mathlib.Core.Path.{_≡_}
+use mathlib.Core.List.{List}
+use mathlib.Core.Path.{_≡_, refl}
+use lib.ListN.{length, take, drop}
+use Rattle.graph.specs.Decode.{graphOf}
+use Rattle.graph.specs.declared.Counts.{Counts}
+use Rattle.records.specs.Access.{Accepts, rowsOf, rowsOffset, rowRecords}
 use Rattle.records.proofs.Laid.{inside, rows-part}
 use Rattle.records.proofs.access.rows.Statement.{statement}
 use Rattle.records.proofs.access.rows.Tie as tie
+
+-- a part of the input from where the rows start, as long as they are
+part : (s : List ℕ) (c : Counts) (from size : ℕ) → Accepts s c → from ≡ rowsOffset (length s) c → size ≡ 5 * c .rows → (take size (drop from s) ≡ rowRecords s c) × (rowsOf (take size (drop from s)) ≡ graphOf s .rows)
+part s c from size a f n = rw (f, n) (refl, rows-part s c a)
 
 rows-offset-requires : tie.Need-rows-offset-requires
 rows-offset-requires c κs = c .before .pre
@@ -23,9 +32,9 @@ part-result-end c = omega (arith, c .annihilators-offset .ensures)
 
 returns : tie.Need-returns
 returns c =
-    let a = c .before .before .before .before .args in
-    let n : c .before .annihilators-offset .result - c .before .before .rows-offset .result ≡ 5 * a .counts .rows = omega (arith, c .before .annihilators-offset .ensures, c .before .before .rows-offset .ensures, inside _ _ (c .before .before .before .before .pre)) in
-    rw (n, c .before .before .rows-offset .ensures) (rows-part _ _ (c .before .before .before .before .pre))
+    let a = c .before .before .before .before in
+    let n : c .before .annihilators-offset .result - c .before .before .rows-offset .result ≡ 5 * a .args .counts .rows = omega (arith, c .before .annihilators-offset .ensures, c .before .before .rows-offset .ensures, inside _ _ (a .pre)) in
+    part _ _ _ _ (a .pre) (c .before .before .rows-offset .ensures) n
 
 pub rows-spec : {M : Type 1} → statement M
 rows-spec =

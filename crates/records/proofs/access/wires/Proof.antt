@@ -1,7 +1,7 @@
 -- `records::access::wires` meets its contract.
 use Prim.Native.Nat.{_*_, _-_}
 use native.Mathlib.Omega.{arith}
-use mathlib.Core.Path.{_≡_}
+use mathlib.Core.Path.{_≡_, refl}
 use Rattle.records.proofs.Laid.{inside, wires-part}
 use Rattle.records.proofs.access.wires.Statement.{statement}
 use Rattle.records.proofs.access.wires.Tie as tie
@@ -25,7 +25,7 @@ returns : tie.Need-returns
 returns c =
     let a = c .before .before .before .before .args in
     let n : c .before .properties-offset .result - c .before .before .wires-offset .result ≡ 7 * a .counts .wires = omega (arith, c .before .properties-offset .ensures, c .before .before .wires-offset .ensures) in
-    rw (n, c .before .before .wires-offset .ensures) (wires-part _ _ (c .before .before .before .before .pre))
+    rw (n, c .before .before .wires-offset .ensures) (refl, wires-part _ _ (c .before .before .before .before .pre))
 
 pub wires-spec : {M : Type 1} → statement M
 wires-spec =

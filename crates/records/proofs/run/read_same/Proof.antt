@@ -1,7 +1,8 @@
 -- `records::run::read_same` meets its contract.
 use native.Mathlib.Omega.{arith}
-use mathlib.Core.Path.{sym, _∙_}
+use mathlib.Core.Path.{sym, subst, _∙_}
 use borrow.Author.Needs.{needs}
+use Rattle.records.specs.Scanned.{InRuns}
 use Rattle.records.proofs.run.read_same.Statement.{statement}
 use Rattle.records.proofs.run.read_same.Tie as tie
 
@@ -36,22 +37,22 @@ enum-told-6 : tie.Need-enum-told-6
 enum-told-6 c = search needs
 
 returns : tie.Need-returns
-returns c = (omega arith, c .before .before .before .pre .3)
+returns c = ((omega arith, c .before .before .before .pre .3), λ u n. subst InRuns (c .enum-told .given .1) u)
 
 returns-2 : tie.Need-returns-2
-returns-2 c = c .read-run .ensures
+returns-2 c = (c .read-run .ensures .0, λ u. c .read-run .ensures .1)
 
 returns-3 : tie.Need-returns-3
-returns-3 c = c .read-run2 .ensures
+returns-3 c = (c .read-run2 .ensures .0, λ u. c .read-run2 .ensures .1)
 
 returns-4 : tie.Need-returns-4
-returns-4 c = c .read-run3 .ensures
+returns-4 c = (c .read-run3 .ensures .0, λ u. c .read-run3 .ensures .1)
 
 returns-5 : tie.Need-returns-5
-returns-5 c = c .read-run4 .ensures
+returns-5 c = (c .read-run4 .ensures .0, λ u. c .read-run4 .ensures .1)
 
 returns-6 : tie.Need-returns-6
-returns-6 c = (omega arith, c .before .before .before .pre .3)
+returns-6 c = ((omega arith, c .before .before .before .pre .3), λ u n. subst InRuns (c .enum-told6 .given .1) u)
 
 pub read-same-spec : {M : Type 1} → statement M
 read-same-spec =

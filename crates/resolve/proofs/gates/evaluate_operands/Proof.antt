@@ -14,18 +14,18 @@ enum-told : tie.Need-enum-told
 enum-told c = search needs
 
 returns : tie.Need-returns
-returns c = gives-none (c .before .before .eval-in .ensures) (c .enum-told .given .1)
+returns c = gives-none (c .before .before .eval-in .ensures .0) (c .enum-told .given .1)
 
 is-non-finite-requires : tie.Need-is-non-finite-requires
 is-non-finite-requires c κs = search needs
 
 returns-2 : tie.Need-returns-2
 returns-2 c =
-    gives-non-finite (c .before .before .before .before .before .eval-in .ensures) (c .before .before .before .v .given .1) (c .before .is-non-finite .ensures) (c .if1 .taken)
+    gives-non-finite (c .before .before .before .before .before .eval-in .ensures .0) (c .before .before .before .v .given .1) (c .before .is-non-finite .ensures) (c .if1 .taken)
 
 returns-3 : tie.Need-returns-3
 returns-3 c =
-    gives-value (c .before .before .before .before .before .eval-in .ensures) (c .before .before .before .v .given .1) (c .before .is-non-finite .ensures) (c .if1 .left)
+    gives-value (c .before .before .before .before .before .eval-in .ensures .0) (c .before .before .before .v .given .1) (c .before .is-non-finite .ensures) (c .if1 .left)
 
 pub evaluate-operands-spec : {M : Type 1} → statement M
 evaluate-operands-spec =

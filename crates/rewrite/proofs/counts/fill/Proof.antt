@@ -35,7 +35,7 @@ returns : tie.Need-returns
 returns c = (c .before .before .before .before .before .before .count-all .ensures .0, live-end _ _ _ _ (c .before .before .before .before .before .before .before .before .before .before .before .before .before .before .before .before .before .before .before .pre .1) (c .before .before .before .before .before .before .before .before .before .before .before .before .before .before .before .before .before .before .before .pre .0 .few-nodes) _ _ _ (c .link-all-live .ensures))
 
 returns-2 : tie.Need-returns-2
-returns-2 c = (counts-none _ _ _ _ (c .before .before .before .before .before .before .before .before .before .pre .1) (c .before .before .before .before .before .before .before .before .before .pre .0 .few-nodes) _ (ap length (c .before .before .before .before .before .before .clear .ensures) ∙ length-replicate {A = ℕ} maxNodes unseen) (c .before .has-action .ensures (c .if1 .left)), live-none _ _ _ _ (c .before .before .before .before .before .before .before .before .before .pre .1) (c .before .before .before .before .before .before .before .before .before .pre .0 .few-nodes) _ _ _ (c .before .before .before .before .clear2 .ensures) (rw (c .before .before .clear-next .ensures) (later-start _)) (c .before .has-action .ensures (c .if1 .left)))
+returns-2 c = (counts-none _ _ _ _ (c .before .before .before .before .before .before .before .before .before .pre .1) (c .before .before .before .before .before .before .before .before .before .pre .0 .few-nodes) _ (ap length (c .before .before .before .before .before .before .clear .ensures) ∙ length-replicate {A = ℕ} maxNodes unseen) (c .before .has-action .ensures .0 (c .if1 .left)), live-none _ _ _ _ (c .before .before .before .before .before .before .before .before .before .pre .1) (c .before .before .before .before .before .before .before .before .before .pre .0 .few-nodes) _ _ _ (c .before .before .before .before .clear2 .ensures) (rw (c .before .before .clear-next .ensures) (later-start _)) (c .before .has-action .ensures .0 (c .if1 .left)))
 
 pub fill-spec : {M : Type 1} → statement M
 fill-spec =

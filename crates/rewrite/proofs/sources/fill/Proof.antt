@@ -22,7 +22,7 @@ has-action-requires : tie.Need-has-action-requires Inv-loop μ-loop
 has-action-requires c κs = c .before .before .pre .0 .few-nodes
 
 returns : tie.Need-returns Inv-loop μ-loop
-returns c = sources-none _ _ _ _ (c .before .before .before .before .pre .1) _ refl (c .before .has-action .ensures (not-true _ (c .if1 .taken)))
+returns c = sources-none _ _ _ _ (c .before .before .before .before .pre .1) _ refl (c .before .has-action .ensures .0 (not-true _ (c .if1 .taken)))
 
 loop-holds : tie.Need-loop-holds Inv-loop μ-loop
 loop-holds c = (traced-start _ _ _ _ (c .before .before .before .before .pre .1) (c .before .before .before .before .pre .0), omega arith, jump-start _ _ _ _ (c .before .before .before .before .pre .1))

@@ -21,7 +21,7 @@ count-kept-requires c κs = search needs
 returns-2 : tie.Need-returns-2
 returns-2 c details F =
     let start = c .before .before .before .before in
-    kept-counted _ _ details _ (F .shaped) (c .before .before .any-above .ensures (c .before .if1 .left)) _ (omega (arith, kept-few (start .args .actions .now) (wiresOf (start .args .wires .now)), start .pre .0 .within .few)) _ (c .count-kept .ensures)
+    kept-counted _ _ details _ (F .shaped) (c .before .before .any-above .ensures .0 (c .before .if1 .left)) _ (omega (arith, kept-few (start .args .actions .now) (wiresOf (start .args .wires .now)), start .pre .0 .within .few)) _ (c .count-kept .ensures)
 
 pub scan-spec : {M : Type 1} → statement M
 scan-spec = tie.close (tie.spec any-above-requires weigh-all-requires returns count-kept-requires returns-2)
