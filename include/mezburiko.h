@@ -23,7 +23,7 @@ extern "C" {
 
 /*
  * The longest answer in bytes: 4,096 wires of 7 enter a node of at most 39 that is no planned literal, and the other
- * 1,023 nodes are Vectors of 55. A buffer of this length holds every answer.
+ * 1,023 nodes are Vectors of 55. A buffer of this length holds every answer: with one, 10 says too many wires.
  */
 #define MEZBURIKO_MAX_ANSWER 84976
 
