@@ -2,20 +2,20 @@
 use mathlib.Core.Path.{_≡_, refl, sym, ap, _∙_, subst, subst⁻¹}
 use mathlib.Core.Bool.{Bool, true, false, cond, true≢false, false≢true}
 use Prim.Native.Nat.{ℕ, zero, suc, _+_, _-_, _*_, _/_, _%_, _^_, _≤_, _<_}
-use native.Mathlib.Nat.{le-trans, lt-of-lt-of-le, lt-of-le-of-lt, le-of-lt, lt-irrefl, zero-lt-suc, mul-one, zero-mul, mul-comm, mul-assoc, mul-right-comm, mul-left-comm, mul-le-mul-left, mul-add, mul-pos, mul-div-cancel, mul-le-mul-right, mul-lt-mul-of-pos-right, add-mul-mod-self-right, div-add-mod', mod-lt, mod-eq-of-lt, add-zero, zero-add, le-add-right}
+use native.Mathlib.Nat.{le-trans, lt-of-lt-of-le, lt-of-le-of-lt, le-of-lt, lt-irrefl, zero-lt-suc, mul-one, zero-mul, mul-comm, mul-assoc, mul-right-comm, mul-left-comm, mul-le-mul-left, mul-add, mul-pos, mul-le-mul-right, mul-lt-mul-of-pos-right, add-mul-mod-self-right, div-add-mod', mod-lt, mod-eq-of-lt, add-zero, zero-add, le-add-right}
 use native.Mathlib.Omega.{arith}
 use lib.Dec.{T, eqb, leb, eqb→eq, lit<, not-T}
 use lib.Arith.{digits-div, digits-mod, lt→nleb}
 use lib.Pow.{pow-add, pow-pos, pow-mono, pow-lt, shl-lt}
-use lib.Ieee.{Float, nan, inf, fin, binary64, up, down, odd, round, neg, mul, rem, fits, size, ofFields, ofBits, toBits}
-use lib.Ieee.Bits.{ofBits-toBits, is-false, cond-no}
+use lib.Ieee.{Float, nan, inf, fin, binary64, up, down, odd, round, neg, mul, rem, fits, ofFields, ofBits}
+use lib.Ieee.Bits.{is-false, cond-no}
 use lib.Ieee.Exact.{HasValue, odd-sign, round-exact}
 use lib.Ieee.Fits.{down-pos, up-pos, round-fits, eq→eqb}
 use lib.Ieee.Scale.{round-same}
 use Rattle.ieee.specs.Bits.{bitsOf}
 use Rattle.ieee.specs.Finite.{finiteOf}
 use Rattle.ieee.specs.Parts.{PartsOf}
-use Rattle.ieee.proofs.Bits.{ofBits-bitsOf}
+use Rattle.ieee.proofs.Bits.{fields-of, same-value}
 use Rattle.ieee.proofs.Values.{neg-round}
 
 -- ---- remainders of whole numbers
@@ -90,25 +90,12 @@ below a b p q A B h =
 
 -- ---- floats by their value
 
--- the bits of a float, and so the float, by its units
-bits-of : (x : Float) (s : Bool) (a : ℕ) → HasValue x s a (2 ^ 1074) → toBits binary64 x ≡ cond s (2 ^ 63) 0 + (size a - 53) * 2 ^ 52 + a / 2 ^ (size a - 53)
-unfolding toBits
-bits-of nan s a v = absurd v
-bits-of (inf t) s a v = absurd v
-bits-of (fin t m e) s a v =
-    ap (λ (z : ℕ). cond t (2 ^ 63) 0 + (size z - 53) * 2 ^ 52 + z / 2 ^ (size z - 53)) (ap (λ (z : ℕ). z / down e) (v .1) ∙ mul-div-cancel a (down-pos e))
-    ∙ ap (λ (b : Bool). cond b (2 ^ 63) 0 + (size a - 53) * 2 ^ 52 + a / 2 ^ (size a - 53)) (v .0)
-
-same-value : (x y : Float) (s : Bool) (a : ℕ) → T (fits binary64 x) → T (fits binary64 y) → HasValue x s a (2 ^ 1074) → HasValue y s a (2 ^ 1074) → x ≡ y
-same-value x y s a F G v w =
-    sym (ofBits-toBits binary64 x F) ∙ ap (ofBits binary64) (bits-of x s a v ∙ sym (bits-of y s a w)) ∙ ofBits-toBits binary64 y G
-
 room : (p : ℕ) → p < 2046 → 53 + p ≤ 2098
 room p h = omega arith
 
 pub rounds-to-itself : (x : Float) (s : Bool) (m e : ℕ) → T (fits binary64 x) → PartsOf x s m e → round binary64 s (m * 2 ^ e) (2 ^ 1074) ≡ x
 rounds-to-itself x s m e F p =
-    same-value (round binary64 s (m * 2 ^ e) (2 ^ 1074)) x s (m * 2 ^ e) (round-fits binary64 s (m * 2 ^ e) (2 ^ 1074)) F
+    same-value (round binary64 s (m * 2 ^ e) (2 ^ 1074)) x s (m * 2 ^ e) (2 ^ 1074) (pow-pos 1074) (round-fits binary64 s (m * 2 ^ e) (2 ^ 1074)) F
     (round-exact binary64 s (m * 2 ^ e) (2 ^ 1074) m e (pow-pos 1074) (p .digits) (lt-of-lt-of-le (shl-lt 53 e (p .digits)) (pow-mono (room e (p .exponent)))) refl)
     (p .value)
 
@@ -196,11 +183,6 @@ high-parts s f t F H = go (eqb (suc f) 2047) (eqb→eq (suc f) 2047) (λ k. eq�
         → PartsOf (cond b (cond (eqb t 0) (inf s) nan) (odd 53 s (2 ^ 52 + t) f 1074)) s (2 ^ 52 + t) f
     go true l k h = absurd (special (eqb t 0) h)
     go false l k h = record { value = odd-sign 53 s (2 ^ 52 + t) f 1074; digits = lead-digits t H; leading = λ z. le-add-right (2 ^ 52) t; exponent = field-exponent f F k }
-
--- the fields of a float's bits
-fields-of : (x : Float) → T (fits binary64 x) → (n : ℕ) → n ≡ bitsOf x → x ≡ ofFields binary64 (leb (2 ^ 63) n) (n % 2 ^ 63 / 2 ^ 52) (n % 2 ^ 52)
-unfolding ofBits
-fields-of x F n h = sym (ofBits-bitsOf x F) ∙ ap (ofBits binary64) (sym h)
 
 pub parts-low : (x : Float) → T (fits binary64 x) → (n : ℕ) → n ≡ bitsOf x → n % 2 ^ 63 / 2 ^ 52 ≡ 0 → PartsOf x (leb (2 ^ 63) n) (n % 2 ^ 52) 0
 parts-low x F n h z =

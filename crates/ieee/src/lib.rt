@@ -1,4 +1,4 @@
-// IEEE 754 binary64: the bits of a float, rounding to an integer, finiteness, and the remainder.
+// IEEE 754 binary64: the bits and the sign of a float, rounding to an integer, finiteness, and the remainder.
 
 ghost use mathlib.Core.Path.{_≡_};
 ghost use mathlib.Core.Bool.{true, false};
@@ -10,6 +10,7 @@ ghost use Rattle.ieee.specs.Bits.{bitsOf};
 ghost use Rattle.ieee.specs.Finite.{finiteOf, sanitizeOf};
 ghost use Rattle.ieee.specs.Integral.{roundToIntegral, floorOf, ceilOf, roundOf};
 ghost use Rattle.ieee.specs.Parts.{PartsOf};
+ghost use Rattle.ieee.specs.Signs.{isSignMinus};
 
 // Every bit but the sign.
 const MAGNITUDE: u64 = 0x7fff_ffff_ffff_ffff;
@@ -47,6 +48,13 @@ pub fn to_bits(x: f64) -> u64
     ensures { λ r. ⌜ r ≡ bitsOf x ⌝ }
 {
     if x != x { NAN } else { f64::to_bits(x) }
+}
+
+// Whether x has the negative sign, -0.0 too. A NaN has none, whatever its bits.
+pub fn is_sign_negative(x: f64) -> bool
+    ensures { λ r. ⌜ r ≡ isSignMinus x ⌝ }
+{
+    to_bits(x) >= SIGN
 }
 
 // How a magnitude is rounded to an integer: toward zero, away from zero, or to nearest with ties away from zero.

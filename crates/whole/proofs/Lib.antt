@@ -2,3 +2,4 @@ pub mod Laws
 pub mod Convert
 pub mod Checked
 pub mod Bits
+pub mod Order
