@@ -75,7 +75,7 @@ abbrev pub asFloatOf : Operand → OptionFloat
 asFloatOf Operand.Unwired = OptionFloat.None
 asFloatOf (Operand.Known v) = asFloatValue v
 
--- "Bitwise gates take Int and Bool (as 0 or 1); others, Unwired too, give None"
+-- "Abs, Min, Max, Clamp on Ints and Bools stay Int", "Bitwise gates take Int and Bool (as 0 or 1)": those as a whole number, and None of others, Unwired too
 abbrev pub asIntValue : Value → OptionInt
 asIntValue (Value.Int n) = OptionInt.Some n
 asIntValue (Value.Float x) = OptionInt.None

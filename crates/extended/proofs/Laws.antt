@@ -33,6 +33,17 @@ pub a-float : {o a : OptionFloat} {x : Float} {r : OptionValue} (f : Float → O
 unfolding onFloat
 a-float f p q e = e ∙ ap (λ (a : OptionFloat). onFloat a f) (sym q ∙ p)
 
+-- the same where that operand is read as the second
+pub no-int-second : {o a : OptionInt} {r other : OptionValue} (b : OptionInt) (f : ℤ → ℤ → OptionValue) → o ≡ a → o ≡ OptionInt.None → r ≡ other → r ≡ onIntElse b other (λ m. onIntElse a other (f m))
+unfolding onIntElse
+no-int-second OptionInt.None f p q e = e
+no-int-second (OptionInt.Some m) f p q e = no-int (f m) p q e
+
+pub no-float-second : {o a : OptionFloat} (b : OptionFloat) (f : Float → Float → OptionValue) → o ≡ a → o ≡ OptionFloat.None → OptionValue.None ≡ onFloat b (λ x. onFloat a (f x))
+unfolding onFloat
+no-float-second OptionFloat.None f p q = refl
+no-float-second (OptionFloat.Some x) f p q = no-float (f x) p q
+
 pub same-int : {y : ℤ} (x : ℤ) → mag x < 2 ^ 63 → x ≡ y → int (readBack x) ≡ int y
 same-int x h e = ap int (toZ-ofZ (sfits-of h) ∙ e)
 

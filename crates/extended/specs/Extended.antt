@@ -1,7 +1,7 @@
 -- Abs, Min, Max, Clamp, Sign, Negate, ModuloFloored, Round, Floor and Ceil (document 01, "Corners of semantics.rs").
 use mathlib.Core.Bool.{false, cond}
 use lib.IntN.{ℤ}
-use lib.Ieee.{Float, nan, inf, fin, binary64, ofBits, isNan, lt, sub, mul, div, neg}
+use lib.Ieee.{Float, nan, inf, fin, binary64, ofBits, lt, sub, mul, div, neg}
 use Rattle.ieee.specs.Finite.{finiteOf}
 use Rattle.ieee.specs.Integral.{floorOf, ceilOf, roundOf}
 use Rattle.whole.specs.Compare.{minOf, maxOf}
@@ -11,6 +11,7 @@ use Rattle.whole.specs.declared.OptionFloat.{OptionFloat}
 use Rattle.value.specs.declared.Value.{Value}
 use Rattle.value.specs.declared.Operand.{Operand}
 use Rattle.value.specs.declared.OptionValue.{OptionValue}
+use Rattle.extended.specs.Extremes.{minimumNumber, maximumNumber}
 use Rattle.conversions.specs.Conversions.{floatZero, asFloatOf, asIntOf, onlyIntOf, givenInt}
 
 abbrev pub int : ℤ → OptionValue
@@ -45,15 +46,9 @@ absOf a =
     onIntElse (asIntOf a) (onFloat (asFloatOf a) (λ x. givenFinite (absFloat x)))
     (λ n. givenInt (checkedAbsOf n))
 
--- "a NaN operand of Min or Max yields the other. When two operands compare equal, the first is given."
-unfoldable pub minFloat : Float → Float → Float
-minFloat x y = cond (isNan x) y (cond (lt y x) y x)
-
-unfoldable pub maxFloat : Float → Float → Float
-maxFloat x y = cond (isNan x) y (cond (lt x y) y x)
-
+-- "Min and Max of floats are minimumNumber and maximumNumber of IEEE 754-2019"
 abbrev pub minFloats : Operand → Operand → OptionValue
-minFloats a b = onFloat (asFloatOf a) (λ x. onFloat (asFloatOf b) (λ y. givenFinite (minFloat x y)))
+minFloats a b = onFloat (asFloatOf a) (λ x. onFloat (asFloatOf b) (λ y. givenFinite (minimumNumber x y)))
 
 abbrev pub minOperands : Operand → Operand → OptionValue
 minOperands a b =
@@ -62,7 +57,7 @@ minOperands a b =
     int (minOf m n)))
 
 abbrev pub maxFloats : Operand → Operand → OptionValue
-maxFloats a b = onFloat (asFloatOf a) (λ x. onFloat (asFloatOf b) (λ y. givenFinite (maxFloat x y)))
+maxFloats a b = onFloat (asFloatOf a) (λ x. onFloat (asFloatOf b) (λ y. givenFinite (maximumNumber x y)))
 
 abbrev pub maxOperands : Operand → Operand → OptionValue
 maxOperands a b =
@@ -70,12 +65,12 @@ maxOperands a b =
     onIntElse (asIntOf b) (maxFloats a b) (λ n.
     int (maxOf m n)))
 
--- "Clamp is Max of the first two, then Min with the third."
+-- "Clamp is Max of the first two, then Min with the third": all three whole or all three floats, and only what it gives need be finite
 abbrev pub clampInt : ℤ → ℤ → ℤ → ℤ
 clampInt n lo hi = minOf (maxOf n lo) hi
 
 abbrev pub clampFloat : Float → Float → Float → Float
-clampFloat x lo hi = minFloat (maxFloat x lo) hi
+clampFloat x lo hi = minimumNumber (maximumNumber x lo) hi
 
 abbrev pub clampFloats : Operand → Operand → Operand → OptionValue
 clampFloats a b c =

@@ -1,1 +1,2 @@
+pub mod Extremes
 pub mod Extended

@@ -1,14 +1,15 @@
 // The extended math gates: Abs, Min, Max, Clamp, Sign, Negate, ModuloFloored, Round, Floor and Ceil.
 ghost use mathlib.Core.Path.{_≡_};
-ghost use Rattle.extended.specs.Extended.{givenFinite, absFloat, absOf, minFloat, minFloats, minOperands, maxFloat, maxFloats, maxOperands, clampInt, clampFloat, clampFloats, clampOf, signFloat, signOf, negateOf, moduloFloored, moduloFlooredOf, roundGate, floorGate, ceilGate};
+ghost use mathlib.Core.Bool.{cond};
+ghost use lib.Ieee.{isNan};
+ghost use Rattle.extended.specs.Extended.{givenFinite, absFloat, absOf, minFloats, minOperands, maxFloats, maxOperands, clampInt, clampFloat, clampFloats, clampOf, signFloat, signOf, negateOf, moduloFloored, moduloFlooredOf, roundGate, floorGate, ceilGate};
+ghost use Rattle.extended.specs.Extremes as Extremes;
+ghost use Rattle.extended.specs.Extremes.{follows, minimumNumber, maximumNumber, Extreme};
 use value::Operand;
 use value::OptionValue;
 use value::Value;
 use whole::OptionFloat;
 use whole::OptionInt;
-
-// The sign of a float is the highest of its bits.
-const SIGN: u64 = 0x8000_0000_0000_0000;
 
 fn finite(x: f64) -> OptionValue
     ensures { λ r. ⌜ r ≡ givenFinite x ⌝ }
@@ -23,7 +24,7 @@ fn finite(x: f64) -> OptionValue
 fn abs_float(x: f64) -> f64
     ensures { λ r. ⌜ r ≡ absFloat x ⌝ }
 {
-    if ieee::to_bits(x) < SIGN { x } else { -x }
+    if ieee::is_sign_negative(x) { -x } else { x }
 }
 
 pub fn abs(a: Operand) -> OptionValue
@@ -38,33 +39,51 @@ pub fn abs(a: Operand) -> OptionValue
     finite(abs_float(x))
 }
 
-// Only a NaN differs from itself.
-fn min_float(x: f64, y: f64) -> f64
-    ensures { λ r. ⌜ r ≡ minFloat x y ⌝ }
+// Whether x is below y, where -0.0 is below 0.0.
+fn precedes(x: f64, y: f64) -> bool
+    ensures { λ r. ⌜ r ≡ Extremes.precedes x y ⌝ }
+{
+    if x < y {
+        return true;
+    }
+    if x == y {
+        return ieee::is_sign_negative(x) & !ieee::is_sign_negative(y);
+    }
+    false
+}
+
+// y where it is ahead of x, or x is a NaN, which alone differs from itself.
+fn chosen(x: f64, y: f64, ahead: bool) -> f64
+    ensures { λ r. ⌜ r ≡ cond (isNan x) y (cond ahead y x) ⌝ }
 {
     if x != x {
         y
-    } else if y < x {
+    } else if ahead {
         y
     } else {
         x
     }
+}
+
+fn min_float(x: f64, y: f64) -> f64
+    ensures result { λ r. ⌜ r ≡ minimumNumber x y ⌝ }
+    ensures least { λ r. ⌜ Extreme Extremes.precedes x y r ⌝ }
+    ensures swapped { λ r. ⌜ r ≡ minimumNumber y x ⌝ }
+{
+    chosen(x, y, precedes(y, x))
 }
 
 fn max_float(x: f64, y: f64) -> f64
-    ensures { λ r. ⌜ r ≡ maxFloat x y ⌝ }
+    ensures result { λ r. ⌜ r ≡ maximumNumber x y ⌝ }
+    ensures greatest { λ r. ⌜ Extreme follows x y r ⌝ }
+    ensures swapped { λ r. ⌜ r ≡ maximumNumber y x ⌝ }
 {
-    if x != x {
-        y
-    } else if x < y {
-        y
-    } else {
-        x
-    }
+    chosen(x, y, precedes(x, y))
 }
 
 fn min_floats(a: Operand, b: Operand) -> OptionValue
-    ensures { λ r. ⌜ r ≡ minFloats a b ⌝ }
+    ensures result { λ r. ⌜ r ≡ minFloats a b ⌝ }
+    ensures swapped { λ r. ⌜ r ≡ minFloats b a ⌝ }
 {
     let OptionFloat::Some(x) = conversions::as_float(a) else {
         return OptionValue::None;
@@ -76,7 +95,8 @@ fn min_floats(a: Operand, b: Operand) -> OptionValue
 }
 
 pub fn min(a: Operand, b: Operand) -> OptionValue
-    ensures { λ r. ⌜ r ≡ minOperands a b ⌝ }
+    ensures result { λ r. ⌜ r ≡ minOperands a b ⌝ }
+    ensures swapped { λ r. ⌜ r ≡ minOperands b a ⌝ }
 {
     let OptionInt::Some(m) = conversions::as_int(a) else {
         return min_floats(a, b);
@@ -88,7 +108,8 @@ pub fn min(a: Operand, b: Operand) -> OptionValue
 }
 
 fn max_floats(a: Operand, b: Operand) -> OptionValue
-    ensures { λ r. ⌜ r ≡ maxFloats a b ⌝ }
+    ensures result { λ r. ⌜ r ≡ maxFloats a b ⌝ }
+    ensures swapped { λ r. ⌜ r ≡ maxFloats b a ⌝ }
 {
     let OptionFloat::Some(x) = conversions::as_float(a) else {
         return OptionValue::None;
@@ -100,7 +121,8 @@ fn max_floats(a: Operand, b: Operand) -> OptionValue
 }
 
 pub fn max(a: Operand, b: Operand) -> OptionValue
-    ensures { λ r. ⌜ r ≡ maxOperands a b ⌝ }
+    ensures result { λ r. ⌜ r ≡ maxOperands a b ⌝ }
+    ensures swapped { λ r. ⌜ r ≡ maxOperands b a ⌝ }
 {
     let OptionInt::Some(m) = conversions::as_int(a) else {
         return max_floats(a, b);

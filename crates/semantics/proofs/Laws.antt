@@ -26,6 +26,7 @@ use Rattle.arithmetic.specs.Arithmetic as A
 use Rattle.arithmetic.specs.declared.MathOp.{MathOp}
 use Rattle.arithmetic.specs.declared.OptionVector.{OptionVector}
 use Rattle.extended.specs.Extended as E
+use Rattle.extended.specs.Extremes as X
 use Rattle.bitwise.specs.Bitwise as B
 use Rattle.semantics.specs.Eval.{Rule, rules, evalOf}
 use Rattle.semantics.specs.Finite.{nonFiniteFloat, finiteValue}
@@ -187,9 +188,9 @@ all-sound = (
                                                   (
                                                     (λ a b c. onIntElse (onlyIntOf a) _ _ (onFloat (asFloatOf a) _ (λ x. finite (neg x))) (λ n. int (checkedNegOf n))),
                                                     (
-                                                      (λ a b c. ints a b _ _ (onFloat (asFloatOf a) _ (λ x. onFloat (asFloatOf b) _ (λ y. finite (E.minFloat x y)))) (λ m n. refl)),
+                                                      (λ a b c. ints a b _ _ (onFloat (asFloatOf a) _ (λ x. onFloat (asFloatOf b) _ (λ y. finite (X.minimumNumber x y)))) (λ m n. refl)),
                                                       (
-                                                        (λ a b c. ints a b _ _ (onFloat (asFloatOf a) _ (λ x. onFloat (asFloatOf b) _ (λ y. finite (E.maxFloat x y)))) (λ m n. refl)),
+                                                        (λ a b c. ints a b _ _ (onFloat (asFloatOf a) _ (λ x. onFloat (asFloatOf b) _ (λ y. finite (X.maximumNumber x y)))) (λ m n. refl)),
                                                         (
                                                           (λ a b c. onIntElse (asIntOf a) _ _ (clampFloats a b c) (λ n. ints b c _ _ (clampFloats a b c) (λ lo hi. refl))),
                                                           (

@@ -11,7 +11,7 @@ eqZ (pos a) (negsuc b) = false
 eqZ (negsuc a) (pos b) = false
 eqZ (negsuc a) (negsuc b) = eqb a b
 
--- "When two operands compare equal, the first is given."
+-- "Min, Max, Clamp on Ints and Bools stay Int": the lower and the higher of two
 unfoldable pub minOf : ℤ → ℤ → ℤ
 minOf a b = cond (ltZ b a) b a
 

@@ -1,5 +1,9 @@
 -- `extended::max` meets its contract.
-use Rattle.extended.proofs.Laws.{gate}
+use mathlib.Core.Path.{_∙_}
+use Rattle.whole.specs.Compare.{maxOf}
+use Rattle.whole.proofs.Order.{maxOf-swapped}
+use Rattle.extended.specs.Extended.{int}
+use Rattle.extended.proofs.Laws.{gate, no-int-second, an-int, same-int}
 use Rattle.extended.proofs.max.Statement.{statement}
 use Rattle.extended.proofs.max.Tie as tie
 
@@ -16,7 +20,7 @@ max-floats-requires : tie.Need-max-floats-requires
 max-floats-requires c κs = tt
 
 returns : tie.Need-returns
-returns c = search gate
+returns c = (search gate, no-int-second _ (λ m n. int (maxOf m n)) (c .before .before .before .as-int .ensures) (c .before .enum-told .given .1) (c .max-floats .ensures .1))
 
 as-int-requires-2 : tie.Need-as-int-requires-2
 as-int-requires-2 c κs = tt
@@ -37,7 +41,7 @@ max-requires : tie.Need-max-requires
 max-requires c κs = tt
 
 returns-3 : tie.Need-returns-3
-returns-3 c = search gate
+returns-3 c = (search gate, search (an-int, same-int, c .max .ensures ∙ maxOf-swapped _ _))
 
 pub max-spec : {M : Type 1} → statement M
 max-spec =

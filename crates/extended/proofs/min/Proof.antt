@@ -1,5 +1,9 @@
 -- `extended::min` meets its contract.
-use Rattle.extended.proofs.Laws.{gate}
+use mathlib.Core.Path.{_∙_}
+use Rattle.whole.specs.Compare.{minOf}
+use Rattle.whole.proofs.Order.{minOf-swapped}
+use Rattle.extended.specs.Extended.{int}
+use Rattle.extended.proofs.Laws.{gate, no-int-second, an-int, same-int}
 use Rattle.extended.proofs.min.Statement.{statement}
 use Rattle.extended.proofs.min.Tie as tie
 
@@ -16,7 +20,7 @@ min-floats-requires : tie.Need-min-floats-requires
 min-floats-requires c κs = tt
 
 returns : tie.Need-returns
-returns c = search gate
+returns c = (search gate, no-int-second _ (λ m n. int (minOf m n)) (c .before .before .before .as-int .ensures) (c .before .enum-told .given .1) (c .min-floats .ensures .1))
 
 as-int-requires-2 : tie.Need-as-int-requires-2
 as-int-requires-2 c κs = tt
@@ -37,7 +41,7 @@ min-requires : tie.Need-min-requires
 min-requires c κs = tt
 
 returns-3 : tie.Need-returns-3
-returns-3 c = search gate
+returns-3 c = (search gate, search (an-int, same-int, c .min .ensures ∙ minOf-swapped _ _))
 
 pub min-spec : {M : Type 1} → statement M
 min-spec =

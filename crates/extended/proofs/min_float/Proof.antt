@@ -1,21 +1,20 @@
 -- `extended::min_float` meets its contract.
-use mathlib.Core.Path.{sym}
-use Rattle.extended.specs.Extended.{minFloat}
-use Rattle.extended.proofs.Laws.{nan-test}
+use Rattle.extended.specs.Extremes.{minimumNumber}
+use Rattle.extended.proofs.Extremes.{precedes-linear, ordered}
 use Rattle.extended.proofs.min_float.Statement.{statement}
 use Rattle.extended.proofs.min_float.Tie as tie
 
+precedes-requires : tie.Need-precedes-requires
+precedes-requires c κs = tt
+
+chosen-requires : tie.Need-chosen-requires
+chosen-requires c κs = tt
+
 returns : tie.Need-returns
-unfolding minFloat
-returns c = sym (simp (nan-test _ (c .if1 .taken)))
-
-returns-2 : tie.Need-returns-2
-unfolding minFloat
-returns-2 c = sym (simp (nan-test _ (c .before .if1 .left), c .if2 .taken))
-
-returns-3 : tie.Need-returns-3
-unfolding minFloat
-returns-3 c = sym (simp (nan-test _ (c .before .if1 .left), c .if2 .left))
+unfolding minimumNumber
+returns c =
+    let g = c .before .before .good in
+    ordered precedes-linear _ _ (g .0 .1) (g .1 .0 .1) (rw (c .before .precedes .ensures) at (c .chosen .ensures))
 
 pub min-float-spec : {M : Type 1} → statement M
-min-float-spec = tie.close (tie.spec returns returns-2 returns-3)
+min-float-spec = tie.close (tie.spec precedes-requires chosen-requires returns)

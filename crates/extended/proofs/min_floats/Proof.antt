@@ -1,5 +1,7 @@
 -- `extended::min_floats` meets its contract.
-use Rattle.extended.proofs.Laws.{gate}
+use Rattle.extended.specs.Extended.{givenFinite}
+use Rattle.extended.specs.Extremes.{minimumNumber}
+use Rattle.extended.proofs.Laws.{gate, no-float-second}
 use Rattle.extended.proofs.min_floats.Statement.{statement}
 use Rattle.extended.proofs.min_floats.Tie as tie
 
@@ -13,7 +15,7 @@ enum-told : tie.Need-enum-told
 enum-told c = c .match .keys2
 
 returns : tie.Need-returns
-returns c = search gate
+returns c = (search gate, no-float-second _ (λ x y. givenFinite (minimumNumber x y)) (c .before .before .as-float .ensures) (c .enum-told .given .1))
 
 as-float-requires-2 : tie.Need-as-float-requires-2
 as-float-requires-2 c κs = tt
@@ -34,7 +36,7 @@ finite-requires : tie.Need-finite-requires
 finite-requires c κs = tt
 
 returns-3 : tie.Need-returns-3
-returns-3 c = search gate
+returns-3 c = search (gate, c .before .min-float .ensures .0)
 
 pub min-floats-spec : {M : Type 1} → statement M
 min-floats-spec =

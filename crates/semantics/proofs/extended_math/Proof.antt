@@ -41,11 +41,11 @@ returns-3 c =
 
 returns-4 : tie.Need-returns-4
 returns-4 c =
-    c .min .ensures ∙ ap (λ n. evalOf n (c .before .before .args .a) (c .before .before .args .b) (c .before .before .args .c)) (sym (c .before .match .keys4))
+    c .min .ensures .0 ∙ ap (λ n. evalOf n (c .before .before .args .a) (c .before .before .args .b) (c .before .before .args .c)) (sym (c .before .match .keys4))
 
 returns-5 : tie.Need-returns-5
 returns-5 c =
-    c .max .ensures ∙ ap (λ n. evalOf n (c .before .before .args .a) (c .before .before .args .b) (c .before .before .args .c)) (sym (c .before .match .keys5))
+    c .max .ensures .0 ∙ ap (λ n. evalOf n (c .before .before .args .a) (c .before .before .args .b) (c .before .before .args .c)) (sym (c .before .match .keys5))
 
 returns-6 : tie.Need-returns-6
 returns-6 c =
