@@ -1,4 +1,4 @@
-"""Gate cases for runs beside the Rust: every class from 6 to 41 on special operands.
+"""Gate cases for runs beside the Rust: every class from 6 to 41 on special operands; and Min, Max and Clamp by IEEE 754-2019.
 
 A case is the 100 bytes that `oracle gates` reads (docs/ORACLE.md): the class, then three operands of a variant byte and
 32 bytes of value. An answer is 33 bytes, an operand's form.
@@ -16,8 +16,8 @@ from mezburiko import tables  # noqa: E402
 
 ORACLE = ROOT / 'compare' / 'oracle' / 'target' / 'release' / 'oracle'
 CASE, ANSWER = 100, 33
-# Min, Max and Clamp, where the Rust leaves the sign of a zero open.
-OPEN_ZEROS = (26, 27, 28)
+# Where the Rust leaves the sign of a zero open.
+MIN, MAX, CLAMP = OPEN_ZEROS = 26, 27, 28
 FLOATS = {2: 1, 4: 3, 5: 3, 6: 4, 7: 4}
 NAN = 0x7FF8000000000000
 
@@ -30,6 +30,12 @@ DOUBLES = [
     0.0, -0.0, 1.0, -1.0, 0.5, -0.5, 1.5, 2.5, -2.5, 3.0, -6.0, -7.0, 0.1, 0.49999999999999994, -0.49999999999999994,
     4503599627370495.5, -4503599627370497.5, 9007199254740992.0, 1e16, 5e-324, -5e-324, 2.2250738585072014e-308,
     1.7976931348623157e308, -1.7976931348623157e308, math.inf, -math.inf, math.nan,
+]
+# What Min, Max and Clamp meet besides, by its bits: neighbours of 1, -1 and the smallest normal floats; a NaN with a sign, one
+# with a payload and a signalling one.
+NEIGHBOURS = [
+    0x3FEFFFFFFFFFFFFF, 0x3FF0000000000001, 0xBFEFFFFFFFFFFFFF, 0xBFF0000000000001, 0x000FFFFFFFFFFFFF, 0x800FFFFFFFFFFFFF,
+    0x8010000000000000, 0xFFF8000000000000, 0x7FF8000000000001, 0x7FF0000000000001,
 ]
 COMPOSITES = [
     (4, 0.0, -0.0, 0.0), (4, 1.0, -2.0, 3.5), (4, 0.5, 0.25, -0.75), (4, math.nan, 1.0, math.inf), (4, 1e308, 1e308, -1e308),
@@ -53,16 +59,32 @@ OPERANDS = (
 )
 
 
+ZEROS = [operand(1), operand(2), operand(2, struct.pack('<d', -0.0))]
+MORE = [operand(2, struct.pack('<Q', bits)) for bits in NEIGHBOURS]
+LIMITS = ZEROS + [operand(2, struct.pack('<d', x)) for x in (1.0, -1.0, *DOUBLES[-8:])] + MORE
+
+
 def input_count(gate):
     return len(tables.CLASSES[gate].folding.inputs)
 
 
+def operands(case):
+    return [case[at:at + 33] for at in (1, 34, 67)][:input_count(case[0])]
+
+
+def of(gate, chosen_from):
+    """A class on every one, pair or triple of some operands."""
+    count = input_count(gate)
+    for chosen in itertools.product(chosen_from, repeat=count):
+        yield bytes([gate]) + b''.join(chosen) + UNWIRED * (3 - count)
+
+
 def every():
-    """Every class on every one, pair or triple of the operands."""
+    """Every class on OPERANDS, and Min, Max and Clamp on LIMITS too; no case twice."""
     for gate in range(6, len(tables.CLASSES)):
-        count = input_count(gate)
-        for chosen in itertools.product(OPERANDS, repeat=count):
-            yield bytes([gate]) + b''.join(chosen) + UNWIRED * (3 - count)
+        yield from of(gate, OPERANDS)
+        if gate in OPEN_ZEROS:
+            yield from (case for case in of(gate, LIMITS) if not set(MORE).isdisjoint(operands(case)))
 
 
 def rust(cases):
@@ -72,8 +94,55 @@ def rust(cases):
     return [out[at:at + ANSWER] for at in range(0, len(out), ANSWER)]
 
 
+# ---- Min, Max and Clamp by the standard, a second writing ----
+
+def whole(given):
+    """An Int or Bool as a whole number, else None."""
+    if given[0] in (1, 3):
+        return struct.unpack_from('<q', given, 1)[0]
+    return None
+
+
+def as_float(given):
+    """A Float as it is, and an Int from -2^53 to 2^53; else None."""
+    if given[0] == 2:
+        return struct.unpack_from('<d', given, 1)[0]
+    if given[0] == 1 and abs(whole(given)) <= 1 << 53:
+        return float(whole(given))
+    return None
+
+
+def signed(x):
+    """What numbers are ordered by: the value, and of two zeros the sign, as -0 compares less than +0."""
+    return x, math.copysign(1, x)
+
+
+def minimum_number(x, y):
+    """IEEE 754-2019, 9.6: x if x < y, y if y < x, and the number if one operand is a number and the other is a NaN."""
+    return min((v for v in (x, y) if not math.isnan(v)), key=signed, default=math.nan)
+
+
+def maximum_number(x, y):
+    return max((v for v in (x, y) if not math.isnan(v)), key=signed, default=math.nan)
+
+
+def limited(gate, lower, higher, x, y, z=None):
+    if gate == CLAMP:
+        return lower(higher(x, y), z)
+    return lower(x, y) if gate == MIN else higher(x, y)
+
+
+def standard(case):
+    """What document 01 gives for a case of classes 26 to 28."""
+    wholes, floats = ([read(given) for given in operands(case)] for read in (whole, as_float))
+    if None not in wholes:
+        return operand(1, struct.pack('<q', limited(case[0], min, max, *wholes)))
+    value = math.nan if None in floats else limited(case[0], minimum_number, maximum_number, *floats)
+    return operand(2, struct.pack('<d', value)) if math.isfinite(value) else UNWIRED
+
+
 def alike(gate, answer):
-    """An answer with what counts alike made equal: all NaNs, and zeros of either sign in classes 26 to 28."""
+    """An answer with what counts alike beside the Rust made equal: all NaNs, and zeros of either sign in classes 26 to 28."""
     words = list(struct.unpack('<4Q', answer[1:]))
     for i in range(FLOATS.get(answer[0], 0)):
         if words[i] & 0x7FFFFFFFFFFFFFFF > 0x7FF0000000000000:

@@ -1,4 +1,5 @@
-//! Which answers count as the same: all NaNs are alike and, in graphs with classes 26 to 28, zeros of either sign.
+//! Which answers count as the same: all NaNs are alike and, beside the Rust, in graphs with classes 26 to 28 zeros of
+//! either sign.
 use crate::records::{class, kind};
 use crate::tables::RECORD_LENGTHS;
 use std::ops::Range;
@@ -33,16 +34,26 @@ fn floats(record: &[u8]) -> Range<usize> {
     }
 }
 
-/// Whether an input has a node of classes 26 to 28.
-fn zeros_alike(input: &[u8]) -> bool {
+/// Whether zeros of different sign count as the same.
+#[derive(Clone, Copy, Debug, PartialEq, Eq)]
+pub enum Zeros {
+    Signed,
+    Alike,
+}
+
+/// How zeros of the Rust's answer to an input are compared: it leaves the sign open that Min, Max and Clamp give.
+pub fn zeros_of_rust(input: &[u8]) -> Zeros {
     let mut nodes = input
         .chunks_exact(3)
         .take_while(|record| record[0] == kind::NODE);
-    nodes.any(|record| (class::MATH_MIN..=class::MATH_CLAMP).contains(&record[1]))
+    match nodes.any(|record| (class::MATH_MIN..=class::MATH_CLAMP).contains(&record[1])) {
+        true => Zeros::Alike,
+        false => Zeros::Signed,
+    }
 }
 
 /// The answer with each such float in one form.
-fn normal(answer: &[u8], zeros_alike: bool) -> Vec<u8> {
+fn normal(answer: &[u8], zeros: Zeros) -> Vec<u8> {
     let mut normal = Vec::with_capacity(answer.len());
     for record in records(answer) {
         let floats = floats(record);
@@ -52,7 +63,7 @@ fn normal(answer: &[u8], zeros_alike: bool) -> Vec<u8> {
             let bits = u64::from_le_bytes(*bytes);
             if bits & !SIGN > INFINITY {
                 *bytes = NAN.to_le_bytes();
-            } else if zeros_alike && bits == SIGN {
+            } else if zeros == Zeros::Alike && bits == SIGN {
                 *bytes = [0; 8];
             }
         }
@@ -62,29 +73,27 @@ fn normal(answer: &[u8], zeros_alike: bool) -> Vec<u8> {
 
 /// The answer with every NaN in one form.
 pub fn normal_nans(answer: &[u8]) -> Vec<u8> {
-    normal(answer, false)
+    normal(answer, Zeros::Signed)
 }
 
-/// Whether the sign of a zero in the answer to an input may be either.
-pub fn open_zeros(input: &[u8], answer: &[u8]) -> bool {
+/// Whether an answer has a zero.
+pub fn has_zero(answer: &[u8]) -> bool {
     let is_zero = |bytes: &[u8; 8]| u64::from_le_bytes(*bytes) & !SIGN == 0;
-    let has_zero = |record: &[u8]| record[floats(record)].as_chunks().0.iter().any(is_zero);
-    zeros_alike(input) && records(answer).any(has_zero)
+    records(answer).any(|record| record[floats(record)].as_chunks().0.iter().any(is_zero))
 }
 
-/// Whether two answers to an input are the same but for what counts alike.
-pub fn alike(input: &[u8], x: &[u8], y: &[u8]) -> bool {
-    let zeros = zeros_alike(input);
+/// Whether two answers are the same but for what counts alike.
+pub fn alike(x: &[u8], y: &[u8], zeros: Zeros) -> bool {
     x == y || normal(x, zeros) == normal(y, zeros)
 }
 
 /// The parts of an answer, each in the form in which it is compared.
 pub const PARTS: [&str; 3] = ["known values", "fates", "wires"];
 
-/// The parts of an answer to an input; wires in number order where the answer is a bag.
-pub fn parts(input: &[u8], answer: &[u8], bag: bool) -> [Vec<Vec<u8>>; 3] {
+/// The parts of an answer; wires in number order where the answer is a bag.
+pub fn parts(answer: &[u8], bag: bool, zeros: Zeros) -> [Vec<Vec<u8>>; 3] {
     let mut parts = [const { Vec::new() }; 3];
-    for record in records(&normal(answer, zeros_alike(input))) {
+    for record in records(&normal(answer, zeros)) {
         let part = match record[0] {
             kind::WIRE => 2,
             kind::KEPT.. => 1,

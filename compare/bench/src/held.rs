@@ -1,8 +1,9 @@
 //! Holds a folder to what the oracle says: the four numbers, the answer, and every other byte of the buffer.
-use crate::alike::{PARTS, alike, parts};
-use crate::folders::{Fold, Outcome};
+use crate::alike::{PARTS, Zeros, alike, parts};
+use crate::folders::{self, Fold, Outcome};
 use crate::oracle::Said;
 use crate::records::limit;
+use std::borrow::Cow;
 use std::cell::Cell;
 use std::panic::{self, AssertUnwindSafe};
 
@@ -32,6 +33,19 @@ fn run(fold: Fold, input: &[u8], out: &mut [u8]) -> Option<Outcome> {
     let outcome = panic::catch_unwind(AssertUnwindSafe(|| fold(input, out)));
     FOLDING.set(false);
     outcome.ok()
+}
+
+/// What the oracle says, with the plain folder's zeros where the Rust leaves their sign open; `None` if the plain folder
+/// differs in more.
+pub fn signed<'a>(input: &[u8], said: &'a Said) -> Option<Cow<'a, Said>> {
+    let (Zeros::Alike, Some(needed)) = (said.zeros(), said.needed()) else {
+        return Some(Cow::Borrowed(said));
+    };
+    let (wanted, bytes) = said.wanted(needed);
+    let mut answer = vec![0; needed];
+    let outcome = run(folders::plain, input, &mut answer)?;
+    let same = outcome == wanted && same_answer(said, bytes, &answer);
+    same.then(|| Cow::Owned(said.signed(answer)))
 }
 
 /// Lengths of the buffer to try: more than the answer needs, what it needs, one byte less, and none;
@@ -88,10 +102,10 @@ impl Paint {
         let outcome = run(fold, input, &mut self.memory[MARGIN..end]);
         let answer = &self.memory[MARGIN..][..bytes.len()];
         let same = outcome == Some(wanted)
-            && (alike(input, bytes, answer) || same_bag(input, said, bytes, answer))
+            && same_answer(said, bytes, answer)
             && self.is_painted(MARGIN + bytes.len(), end + MARGIN)
             && self.is_painted(0, MARGIN);
-        let difference = (!same).then(|| self.describe(input, said, buffer, outcome));
+        let difference = (!same).then(|| self.describe(said, buffer, outcome));
         let touched = if same {
             MARGIN..end
         } else {
@@ -105,13 +119,7 @@ impl Paint {
         self.memory[from..to] == self.clean[from..to]
     }
 
-    fn describe(
-        &self,
-        input: &[u8],
-        said: &Said,
-        buffer: usize,
-        outcome: Option<Outcome>,
-    ) -> Difference {
+    fn describe(&self, said: &Said, buffer: usize, outcome: Option<Outcome>) -> Difference {
         let (wanted, bytes) = said.wanted(buffer);
         let got = outcome.map(|outcome| {
             let length = outcome.length.min(buffer);
@@ -122,7 +130,7 @@ impl Paint {
             Some((outcome, answer)) => {
                 let mut what = differing_numbers(wanted, *outcome);
                 if (wanted.number, outcome.number) == (0, 0) {
-                    what.extend(differing_parts(input, bytes, answer, said.is_bag()));
+                    what.extend(differing_parts(said, bytes, answer));
                 }
                 what.extend(self.touched(answer.len(), buffer));
                 what
@@ -150,17 +158,14 @@ impl Paint {
     }
 }
 
-fn same_bag(input: &[u8], said: &Said, x: &[u8], y: &[u8]) -> bool {
-    said.is_bag() && parts(input, x, true) == parts(input, y, true)
+fn same_answer(said: &Said, x: &[u8], y: &[u8]) -> bool {
+    let zeros = said.zeros();
+    alike(x, y, zeros) || said.is_bag() && parts(x, true, zeros) == parts(y, true, zeros)
 }
 
-fn differing_parts(
-    input: &[u8],
-    wanted: &[u8],
-    got: &[u8],
-    bag: bool,
-) -> impl Iterator<Item = &'static str> {
-    let (wanted, got) = (parts(input, wanted, bag), parts(input, got, bag));
+fn differing_parts(said: &Said, wanted: &[u8], got: &[u8]) -> impl Iterator<Item = &'static str> {
+    let of = |answer| parts(answer, said.is_bag(), said.zeros());
+    let (wanted, got) = (of(wanted), of(got));
     let pairs = wanted.into_iter().zip(got).zip(PARTS);
     pairs.filter_map(|((wanted, got), name)| (wanted != got).then_some(name))
 }

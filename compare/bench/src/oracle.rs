@@ -1,4 +1,5 @@
 //! The oracle's program, asked through pipes (docs/ORACLE.md).
+use crate::alike::{Zeros, zeros_of_rust};
 use crate::folders::Outcome;
 use crate::records::limit;
 use std::io::{BufRead, BufReader, Write};
@@ -18,11 +19,12 @@ pub enum Said {
         bytes: Vec<u8>,
         /// Whether no single run showed the order of the wires.
         bag: bool,
+        zeros: Zeros,
     },
 }
 
 impl Said {
-    fn parse(line: &str) -> Said {
+    fn parse(line: &str, input: &[u8]) -> Said {
         let fields: Vec<&str> = line.split(' ').collect();
         let number = |i: usize| fields[i].parse::<u64>().expect("a number");
         match fields[0] {
@@ -39,6 +41,7 @@ impl Said {
                 wires: number(2),
                 bytes: unhex(fields[3]),
                 bag: word == "bag",
+                zeros: zeros_of_rust(input),
             },
             other => panic!("the oracle says {other}"),
         }
@@ -69,6 +72,22 @@ impl Said {
 
     pub fn is_bag(&self) -> bool {
         matches!(self, Said::Answer { bag: true, .. })
+    }
+
+    pub fn zeros(&self) -> Zeros {
+        match self {
+            Said::Answer { zeros, .. } => *zeros,
+            Said::Refused { .. } => Zeros::Signed,
+        }
+    }
+
+    /// The same answer with the zeros of these bytes, each with its sign.
+    pub fn signed(&self, signed: Vec<u8>) -> Said {
+        let mut said = self.clone();
+        if let Said::Answer { bytes, zeros, .. } = &mut said {
+            (*bytes, *zeros) = (signed, Zeros::Signed);
+        }
+        said
     }
 }
 
@@ -117,7 +136,7 @@ impl Oracle {
             while said.len() < inputs.len() {
                 line.clear();
                 match stdout.read_line(&mut line) {
-                    Ok(1..) => said.push(Said::parse(line.trim_end())),
+                    Ok(1..) => said.push(Said::parse(line.trim_end(), inputs[said.len()])),
                     _ => return Err(said.len()),
                 }
             }

@@ -3,7 +3,7 @@ use crate::original;
 use crate::random;
 use crate::records::{Graph, class, limit, port, variant};
 use crate::rng::Rng;
-use crate::tables::ROW_LENGTHS;
+use crate::tables::{INPUT_PORTS, ROW_LENGTHS};
 
 pub const NODES: usize = limit::NODES;
 const LINK: [u8; 4] = [
@@ -352,6 +352,38 @@ pub fn limits() -> Vec<Vec<u8>> {
     inputs.push(doubling_to(12).bytes());
     inputs.push(doubling_to(13).bytes());
     inputs
+}
+
+/// Min, Max and Clamp of every two or three zeros: Int 0, 0.0 and -0.0.
+pub fn zeros() -> Vec<Vec<u8>> {
+    let mut inputs = Vec::new();
+    for class in class::MATH_MIN..=class::MATH_CLAMP {
+        let ports = INPUT_PORTS[usize::from(class)];
+        for chosen in 0..3usize.pow(ports.len() as u32) {
+            inputs.push(gate_of_zeros(class, ports, chosen).bytes());
+        }
+    }
+    inputs
+}
+
+/// A gate whose operands are the zeros that the digits of `chosen` in base 3 say.
+fn gate_of_zeros(class: u8, ports: &[u8], chosen: usize) -> Graph {
+    let mut graph = Graph::default();
+    let gate = graph.node(class);
+    let mut row = [variant::UNWIRED; 3];
+    let mut digits = chosen;
+    for (&port, place) in ports.iter().zip(&mut row) {
+        let (variant, bits) = [
+            (variant::INT, 0),
+            (variant::FLOAT, 0.0f64.to_bits()),
+            (variant::FLOAT, (-0.0f64).to_bits()),
+        ][digits % 3];
+        graph.property(variant, gate, port, bits.to_le_bytes().to_vec());
+        *place = variant;
+        digits /= 3;
+    }
+    graph.row(class, row);
+    graph
 }
 
 /// A Quat that 1,023 chip nodes pass on: an answer of more than 65,536 bytes.

@@ -1,5 +1,5 @@
 //! Counts what a run has met, and prints them.
-use crate::alike::records;
+use crate::alike::{Zeros, has_zero, parts, records};
 use crate::oracle::Said;
 use crate::records::{class, kind};
 use crate::table::{Table, whole};
@@ -38,6 +38,21 @@ impl Tally {
         } else {
             let places = self.places.entry(outcome.number).or_default();
             places.insert(outcome.place);
+        }
+    }
+
+    /// Counts an answer whose zeros' signs the Rust leaves open, where it has zeros; `signed` has the plain folder's.
+    pub fn add_zeros(&mut self, said: &Said, signed: &Said) {
+        let ((_, bytes), (_, signed)) = (said.wanted(usize::MAX), signed.wanted(usize::MAX));
+        if has_zero(bytes) {
+            let of = |answer| parts(answer, true, Zeros::Signed);
+            let other = usize::from(of(bytes) != of(signed));
+            self.count(
+                14,
+                "answers with zeros of open sign, held to the plain folder",
+                1,
+            );
+            self.count(15, "of them with a sign that is not the oracle's", other);
         }
     }
 

@@ -1,5 +1,5 @@
 //! Times: the best of many calls, the folders in turn.
-use crate::alike::alike;
+use crate::alike::{Zeros, alike, zeros_of_rust};
 use crate::folders::{self, Fold, Outcome, Worklist};
 use crate::original;
 use crate::shapes::Shape;
@@ -112,7 +112,7 @@ pub fn check(shape: &Shape) -> (Outcome, Vec<u8>) {
     if let Some(proved) = folders::PROVED {
         let (other, bytes) = run(proved, &shape.input);
         assert!(
-            other == outcome && alike(&shape.input, &answer, &bytes),
+            other == outcome && alike(&answer, &bytes, Zeros::Signed),
             "proved: {}",
             shape.name
         );
@@ -123,7 +123,7 @@ pub fn check(shape: &Shape) -> (Outcome, Vec<u8>) {
         let (bytes, pops) = original::answer(&prepared, &folded).expect("it ends");
         let other = Outcome::folded(bytes.len(), pops);
         assert!(
-            other == outcome && alike(&shape.input, &answer, &bytes),
+            other == outcome && alike(&answer, &bytes, zeros_of_rust(&shape.input)),
             "original: {}",
             shape.name
         );

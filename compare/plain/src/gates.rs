@@ -234,13 +234,22 @@ fn whole_limits(class: u8, x: i64, y: i64, z: i64) -> Option<i64> {
     }
 }
 
-/// The first of equals; a NaN yields the other.
+/// minimumNumber of IEEE 754-2019: the number where one operand is a NaN, else by totalOrder, in which -0.0 is below 0.0.
 fn min(x: f64, y: f64) -> f64 {
-    if x.is_nan() || y < x { y } else { x }
+    if y.is_nan() || !x.is_nan() && x.total_cmp(&y).is_lt() {
+        x
+    } else {
+        y
+    }
 }
 
+/// maximumNumber, likewise.
 fn max(x: f64, y: f64) -> f64 {
-    if x.is_nan() || y > x { y } else { x }
+    if y.is_nan() || !x.is_nan() && x.total_cmp(&y).is_gt() {
+        x
+    } else {
+        y
+    }
 }
 
 fn signs(class: u8, v: Operand) -> Option<Value> {

@@ -1,10 +1,12 @@
-//! Folds inputs with the oracle's program and with each folder that is linked, and holds these to it.
+//! Folds inputs with the oracle's program and with each folder that is linked, and holds these to it; the proved one to
+//! the plain one's zeros where the Rust leaves their sign open.
 //!
 //!     compare ORACLE COUNT SEED
 //!
 //! ORACLE is the program that compare/oracle/build makes. The inputs are certain graphs, every run of at most two
 //! bytes, and COUNT made at random from SEED. Where a folder differs, the smallest input found is printed with both
 //! answers, and the exit status is 1. docs/COMPARISON.md says what is held alike.
+use bench::alike::Zeros;
 use bench::families;
 use bench::folders::{self, Fold, Outcome};
 use bench::held::{self, Difference, Paint, buffers};
@@ -13,11 +15,13 @@ use bench::progress::Progress;
 use bench::shapes;
 use bench::shrink;
 use bench::tally::Tally;
+use std::borrow::Cow;
 use std::collections::BTreeMap;
 use std::process::ExitCode;
 use std::sync::mpsc::{Receiver, SyncSender, sync_channel};
 use std::thread;
 
+const PLAIN: &str = "plain";
 const BATCH: usize = 500;
 /// One input of so many is folded into the program's whole buffer too.
 const WIDE: usize = 8;
@@ -31,7 +35,8 @@ struct Case {
 fn cases(count: u64, seed: u64) -> impl Iterator<Item = Case> {
     let certain = |family| move |input| Case { family, input };
     let shapes = shapes::all().into_iter().map(|shape| shape.input);
-    let shapes = shapes.chain(shapes::limits()).map(certain("certain"));
+    let shapes = shapes.chain(shapes::limits()).chain(shapes::zeros());
+    let shapes = shapes.map(certain("certain"));
     let short = families::short_inputs().map(certain("two bytes"));
     let random = (0..count).map(move |index| {
         let (family, input) = families::input(seed, index);
@@ -73,7 +78,7 @@ struct Comparison {
 
 impl Comparison {
     fn new() -> Self {
-        let mut folders: Vec<(&str, Fold)> = vec![("plain", folders::plain)];
+        let mut folders: Vec<(&str, Fold)> = vec![(PLAIN, folders::plain)];
         folders.extend(folders::PROVED.map(|fold| ("proved", fold)));
         Comparison {
             folders,
@@ -86,6 +91,11 @@ impl Comparison {
     fn add(&mut self, case: Case, said: &Said) {
         let wide = self.tally.inputs % WIDE == 0;
         self.tally.add_input(case.family, &case.input, said);
+        if said.zeros() == Zeros::Alike {
+            let signed = held::signed(&case.input, said);
+            self.tally
+                .add_zeros(said, signed.as_deref().unwrap_or(said));
+        }
         let buffers = buffers(said, wide);
         for &buffer in &buffers {
             self.tally.add_fold(said, buffer);
@@ -113,9 +123,13 @@ impl Comparison {
         said: &Said,
         buffers: &[usize],
     ) -> Option<Difference> {
-        let fold = self.folders[folder].1;
+        let (name, fold) = self.folders[folder];
+        let said = match name {
+            PLAIN => Cow::Borrowed(said),
+            _ => held::signed(input, said).unwrap_or(Cow::Borrowed(said)),
+        };
         let mut lengths = buffers.iter();
-        lengths.find_map(|&buffer| self.paint.difference(fold, input, said, buffer))
+        lengths.find_map(|&buffer| self.paint.difference(fold, input, &said, buffer))
     }
 
     /// Prints, for each folder that differs, the smallest input found.
@@ -181,7 +195,7 @@ fn print_difference(input: &[u8], difference: &Difference) {
             hex(bytes)
         );
     };
-    answer("oracle ", &difference.wanted);
+    answer("wanted ", &difference.wanted);
     match &difference.got {
         Some(got) => answer("folder ", got),
         None => println!("  folder  it panics"),

@@ -2,13 +2,12 @@
 //!
 //!     make_replay ORACLE
 //!
-//! Inputs of a fixed seed are taken from the front as long as their bucket, of family and outcome, has room, and a few
-//! at the limits. NaNs are written 7FF8000000000000. Left out are long inputs, answers that are bags of wires, and
-//! graphs of classes 26 to 28 whose answer has a zero, as the Rust leaves its sign open. A case is what
-//! crates/replay/src/main.rt reads.
-use bench::alike::{normal_nans, open_zeros};
+//! Inputs of a fixed seed are taken from the front as long as their bucket, of family and outcome, has room, and certain
+//! ones. NaNs are written 7FF8000000000000, and zeros as the plain folder has them where the Rust leaves their sign
+//! open. Left out are long inputs and answers that are bags of wires. A case is what crates/replay/src/main.rt reads.
+use bench::alike::normal_nans;
 use bench::families;
-use bench::held::{BUFFER, buffers};
+use bench::held::{BUFFER, buffers, signed};
 use bench::oracle::{Oracle, Said};
 use bench::records::limit;
 use bench::shapes;
@@ -33,6 +32,7 @@ fn room(family: &str, number: u8) -> usize {
 
 /// A case, with a buffer of this length.
 fn case(input: &[u8], said: &Said, buffer: usize) -> Vec<u8> {
+    let said = signed(input, said).expect("the plain folder gives what the oracle says");
     let (outcome, answer) = said.wanted(buffer);
     let numbers = [
         input.len(),
@@ -49,8 +49,7 @@ fn case(input: &[u8], said: &Said, buffer: usize) -> Vec<u8> {
 }
 
 fn taken(input: &[u8], said: &Said) -> bool {
-    let (_, answer) = said.wanted(BUFFER);
-    input.len() <= LONGEST && !said.is_bag() && !open_zeros(input, answer)
+    input.len() <= LONGEST && !said.is_bag()
 }
 
 /// Cases at random, a bucket for each family and outcome.
@@ -75,10 +74,12 @@ fn random_cases(oracle: &mut Oracle, cases: &mut Vec<Vec<u8>>) {
     }
 }
 
-/// Inputs at and past the limits, each into the program's buffer; of those that are no records, one.
-fn limit_cases(oracle: &mut Oracle, cases: &mut Vec<Vec<u8>>) {
+/// Inputs at and past the limits, of those that are no records one, and zeros in Min, Max and Clamp, each into the program's
+/// buffer.
+fn certain_cases(oracle: &mut Oracle, cases: &mut Vec<Vec<u8>>) {
     let limits = shapes::limits().into_iter();
-    for input in limits.filter(|input| input.len() != limit::INPUT) {
+    let limits = limits.filter(|input| input.len() != limit::INPUT);
+    for input in limits.chain(shapes::zeros()) {
         let said = oracle.ask_one(&input).expect("the oracle answers all");
         cases.push(case(&input, &said, BUFFER));
     }
@@ -92,7 +93,7 @@ fn main() -> ExitCode {
     let mut oracle = Oracle::start(&program);
     let mut cases = Vec::new();
     random_cases(&mut oracle, &mut cases);
-    limit_cases(&mut oracle, &mut cases);
+    certain_cases(&mut oracle, &mut cases);
     eprintln!("{}", cases.len());
     let written = stdout().write_all(&cases.concat());
     written.map_or(ExitCode::FAILURE, |()| ExitCode::SUCCESS)
