@@ -26,10 +26,13 @@ INTS = [
     (1 << 53) - 1, 1 << 53, (1 << 53) + 1, -(1 << 53), -(1 << 53) - 1,
     (1 << 63) - 1, (1 << 63) - 2, -(1 << 63), -(1 << 63) + 1,
 ]
+# The floats next to zero and to the infinities, the smallest normal one, and what is no finite number.
+EXTREMES = [
+    5e-324, -5e-324, 2.2250738585072014e-308, 1.7976931348623157e308, -1.7976931348623157e308, math.inf, -math.inf, math.nan,
+]
 DOUBLES = [
     0.0, -0.0, 1.0, -1.0, 0.5, -0.5, 1.5, 2.5, -2.5, 3.0, -6.0, -7.0, 0.1, 0.49999999999999994, -0.49999999999999994,
-    4503599627370495.5, -4503599627370497.5, 9007199254740992.0, 1e16, 5e-324, -5e-324, 2.2250738585072014e-308,
-    1.7976931348623157e308, -1.7976931348623157e308, math.inf, -math.inf, math.nan,
+    4503599627370495.5, -4503599627370497.5, 9007199254740992.0, 1e16, *EXTREMES,
 ]
 # What Min, Max and Clamp meet besides, by its bits: neighbours of 1, -1 and the smallest normal floats; a NaN with a sign, one
 # with a payload and a signalling one.
@@ -61,7 +64,7 @@ OPERANDS = (
 
 ZEROS = [operand(1), operand(2), operand(2, struct.pack('<d', -0.0))]
 MORE = [operand(2, struct.pack('<Q', bits)) for bits in NEIGHBOURS]
-LIMITS = ZEROS + [operand(2, struct.pack('<d', x)) for x in (1.0, -1.0, *DOUBLES[-8:])] + MORE
+LIMITS = ZEROS + [operand(2, struct.pack('<d', x)) for x in (1.0, -1.0, *EXTREMES)] + MORE
 
 
 def input_count(gate):

@@ -28,10 +28,8 @@ const INTS: [i64; 24] = [
     i64::MIN + 1,
     0x5555_5555_5555_5555,
 ];
-const FLOATS: [f64; 28] = [
+const FLOATS: [f64; 26] = [
     0.0,
-    0.0,
-    -0.0,
     -0.0,
     1.0,
     -1.0,
@@ -113,10 +111,11 @@ fn int(rng: &mut Rng) -> i64 {
     }
 }
 
-/// The bits of special floats and those beside them, of halves, of an Int's, and any.
+/// The bits of zeros of either sign, of special floats and those beside them, of halves, of an Int's, and any.
 fn float(rng: &mut Rng) -> u64 {
     match rng.below(10) {
-        0..5 => rng.pick(&FLOATS).to_bits(),
+        0 => rng.pick(&[0.0f64, -0.0]).to_bits(),
+        1..5 => rng.pick(&FLOATS).to_bits(),
         5 => rng
             .pick(&FLOATS)
             .to_bits()
