@@ -14,17 +14,25 @@ ROOT = pathlib.Path(__file__).resolve().parent.parent.parent
 sys.path.insert(0, str(ROOT / 'tools'))
 from mezburiko import tables  # noqa: E402
 
-ORACLE = ROOT / 'compare' / 'oracle' / 'target' / 'release' / 'oracle'
+TARGET = ROOT / 'compare' / 'oracle' / 'target'
+ORACLE, EXACT = TARGET / 'release' / 'oracle', TARGET / 'exact' / 'release' / 'oracle'
 CASE, ANSWER = 100, 33
 # Where the Rust leaves the sign of a zero open.
 MIN, MAX, CLAMP = OPEN_ZEROS = 26, 27, 28
 FLOATS = {2: 1, 4: 3, 5: 3, 6: 4, 7: 4}
 NAN = 0x7FF8000000000000
 
+# From its negative to it every Int is a float.
+SHORT = 1 << 53
+SMALLEST, LARGEST = -(1 << 63), (1 << 63) - 1
+# Where Ints begin or cease to be floats: around 2^53, half way between two floats (2^54+2, 2^62+512, 2^63-512), a power of
+# two, the largest multiple of 1,024, and both ends.
+BOUNDARIES = [
+    SHORT - 1, SHORT, SHORT + 1, -SHORT - 1, SHORT + 2, (1 << 54) + 2, 1 << 60, (1 << 62) + 512,
+    LARGEST - 1023, LARGEST - 511, LARGEST, SMALLEST, SMALLEST + 1,
+]
 INTS = [
-    0, 1, -1, 2, 3, -3, -7, 7, 10, 63, 64, -64, 0x5555555555555555, -(1 << 62),
-    (1 << 53) - 1, 1 << 53, (1 << 53) + 1, -(1 << 53), -(1 << 53) - 1,
-    (1 << 63) - 1, (1 << 63) - 2, -(1 << 63), -(1 << 63) + 1,
+    0, 1, -1, 2, 3, -3, -7, 7, 10, 63, 64, -64, 0x5555555555555555, -(1 << 62), -SHORT, LARGEST - 1, *BOUNDARIES,
 ]
 # The floats next to zero and to the infinities, the smallest normal one, and what is no finite number.
 EXTREMES = [
@@ -52,19 +60,27 @@ def operand(variant, value=b''):
     return bytes([variant]) + value.ljust(32, b'\0')
 
 
-UNWIRED = operand(0)
+def whole_number(n):
+    return operand(1, struct.pack('<q', n))
+
+
+def floats(variant, *parts):
+    return operand(variant, struct.pack('<%dd' % len(parts), *parts))
+
+
+UNWIRED, TRUE = operand(0), operand(3, b'\1')
 OPERANDS = (
     [UNWIRED]
-    + [operand(1, struct.pack('<q', n)) for n in INTS]
-    + [operand(2, struct.pack('<d', x)) for x in DOUBLES]
-    + [operand(3, bytes([b])) for b in (0, 1)]
-    + [operand(variant, struct.pack('<%dd' % len(parts), *parts)) for variant, *parts in COMPOSITES]
+    + [whole_number(n) for n in INTS]
+    + [floats(2, x) for x in DOUBLES]
+    + [operand(3), TRUE]
+    + [floats(*composite) for composite in COMPOSITES]
 )
 
 
-ZEROS = [operand(1), operand(2), operand(2, struct.pack('<d', -0.0))]
+ZEROS = [whole_number(0), floats(2, 0.0), floats(2, -0.0)]
 MORE = [operand(2, struct.pack('<Q', bits)) for bits in NEIGHBOURS]
-LIMITS = ZEROS + [operand(2, struct.pack('<d', x)) for x in (1.0, -1.0, *EXTREMES)] + MORE
+LIMITS = ZEROS + [floats(2, x) for x in (1.0, -1.0, *EXTREMES)] + MORE
 
 
 def input_count(gate):
@@ -90,11 +106,33 @@ def every():
             yield from (case for case in of(gate, LIMITS) if not set(MORE).isdisjoint(operands(case)))
 
 
-def rust(cases):
-    """What the Rust gives, answer by answer."""
-    out = subprocess.run([ORACLE, 'gates'], input=b''.join(cases), capture_output=True, check=True).stdout
+def ask(oracle, cases):
+    out = subprocess.run([oracle, 'gates'], input=b''.join(cases), capture_output=True, check=True).stdout
     assert len(out) == ANSWER * len(cases), 'the oracle did not answer every case'
     return [out[at:at + ANSWER] for at in range(0, len(out), ANSWER)]
+
+
+def rust(cases):
+    """What the Rust gives, answer by answer."""
+    return ask(ORACLE, cases)
+
+
+def exact(cases):
+    """What the exact oracle gives, in which every Int that some f64 equals becomes a float."""
+    return ask(EXACT, cases)
+
+
+def held_to(cases):
+    """What each case is held to, and whether that is the exact oracle's answer: it is where the two differ, which they may
+    on a long Int that the Rust gives nothing for."""
+    for case, original, other in zip(cases, rust(cases), exact(cases), strict=True):
+        differ = alike(case[0], original) != alike(case[0], other)
+        assert not differ or original == UNWIRED and has_long_int(case), 'the oracles differ: %s' % case.hex()
+        yield (other if differ else original), differ
+
+
+def has_long_int(case):
+    return any(given[0] == 1 and abs(whole(given)) > SHORT for given in operands(case))
 
 
 # ---- Min, Max and Clamp by the standard, a second writing ----
@@ -107,10 +145,10 @@ def whole(given):
 
 
 def as_float(given):
-    """A Float as it is, and an Int from -2^53 to 2^53; else None."""
+    """A Float as it is, and an Int that is still itself after it was a float; else None."""
     if given[0] == 2:
         return struct.unpack_from('<d', given, 1)[0]
-    if given[0] == 1 and abs(whole(given)) <= 1 << 53:
+    if given[0] == 1 and int(float(whole(given))) == whole(given):
         return float(whole(given))
     return None
 

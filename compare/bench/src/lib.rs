@@ -2,8 +2,8 @@
 //!
 //! - Graphs: `tables` and `records` write them, `shapes` makes certain ones, `random` and `families`
 //!   make them at random from `rng` and `operands`, and `damage` spoils them.
-//! - Folders: `folders` and `original` run them, and `oracle` asks the original as a program.
-//! - Comparison: `alike` says which answers count as the same, `held` holds a folder to the oracle,
+//! - Folders: `folders` and `original` run them, and `oracle` asks the original as programs.
+//! - Comparison: `alike` says which answers count as the same, `held` holds a folder to the oracles,
 //!   `shrink` makes an input that differs small, `tally` and `progress` tell.
 //! - Measuring: `timing` and `stack`, with `table` to print.
 

@@ -99,16 +99,52 @@ pub fn rich_value(rng: &mut Rng, variant: u8) -> Vec<u8> {
     }
 }
 
-/// Special Ints and those beside them, small ones, powers of two, and any.
+/// Special Ints and those beside them, small ones, powers of two, long ones, and any.
 fn int(rng: &mut Rng) -> i64 {
-    match rng.below(10) {
+    match rng.below(14) {
         0..4 => rng.pick(&INTS).wrapping_add(rng.below(3) as i64 - 1),
         4..6 => rng.below(21) as i64 - 10,
         6 => rng.below(131) as i64 - 65,
         7 => (1i64 << rng.below(64)).wrapping_sub(rng.below(2) as i64),
         8 => rng.next() as i64 >> rng.below(64),
+        9..13 => long_int(rng),
         _ => rng.next() as i64,
     }
+}
+
+/// Both ends, the floats next to them, and the Ints half way between.
+const ENDS: [i64; 6] = [
+    i64::MAX,
+    i64::MAX - 511,
+    i64::MAX - 1_023,
+    i64::MIN,
+    i64::MIN + 512,
+    i64::MIN + 1_024,
+];
+/// The new motors' counters go up by it.
+const STEP: i64 = 1_024;
+
+/// An Int beyond 2^53 or at it, either way: a power of two, a multiple of 1,024 or of the distance of the floats around
+/// it, half way between two of them, an odd one, an end; at times the one above or below.
+fn long_int(rng: &mut Rng) -> i64 {
+    let exponent = rng.between(f64::MANTISSA_DIGITS as usize, i64::BITS as usize - 2);
+    let power = 1i64 << exponent;
+    let distance = power >> (f64::MANTISSA_DIGITS - 1);
+    let any = power | (rng.next() as i64 & (power - 1));
+    let chosen = match rng.below(7) {
+        0 => power,
+        1..3 => any & !(STEP - 1),
+        3 => any & !(distance - 1),
+        4 => any & !(distance - 1) | distance / 2,
+        5 => any | 1,
+        _ => rng.pick(&ENDS),
+    };
+    let beside = rng.pick(&[0, 0, 0, 0, 0, 0, 1, -1]);
+    let signed = match rng.percent(50) {
+        true => chosen,
+        false => chosen.wrapping_neg(),
+    };
+    signed.wrapping_add(beside)
 }
 
 /// The bits of zeros of either sign, of special floats and those beside them, of halves, of an Int's, and any.

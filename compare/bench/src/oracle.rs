@@ -1,12 +1,12 @@
-//! The oracle's program, asked through pipes (docs/ORACLE.md).
-use crate::alike::{Zeros, zeros_of_rust};
+//! The oracles' programs, asked through pipes (docs/ORACLE.md).
+use crate::alike::{Zeros, alike, zeros_of_rust};
 use crate::folders::Outcome;
 use crate::records::limit;
 use std::io::{BufRead, BufReader, Write};
 use std::process::{Child, ChildStdin, ChildStdout, Command, Stdio};
 use std::thread;
 
-/// What the oracle says of an input, for a buffer of any length.
+/// What an oracle says of an input, for a buffer of any length.
 #[derive(Clone, Debug)]
 pub enum Said {
     Refused {
@@ -25,7 +25,7 @@ pub enum Said {
 
 impl Said {
     fn parse(line: &str, input: &[u8]) -> Said {
-        let fields: Vec<&str> = line.split(' ').collect();
+        let fields: Vec<&str> = line.trim_end().split(' ').collect();
         let number = |i: usize| fields[i].parse::<u64>().expect("a number");
         match fields[0] {
             "invalid" => Said::Refused {
@@ -70,6 +70,13 @@ impl Said {
         }
     }
 
+    /// Whether another oracle says the same for every length of buffer, but for what counts alike.
+    fn agrees(&self, other: &Said) -> bool {
+        let (outcome, bytes) = self.wanted(usize::MAX);
+        let (other, other_bytes) = other.wanted(usize::MAX);
+        outcome == other && alike(bytes, other_bytes, self.zeros())
+    }
+
     pub fn is_bag(&self) -> bool {
         matches!(self, Said::Answer { bag: true, .. })
     }
@@ -100,14 +107,88 @@ fn unhex(digits: &str) -> Vec<u8> {
     bytes.collect()
 }
 
-pub struct Oracle {
+/// Which oracle folders are held to on an input.
+#[derive(Clone, Copy, Debug, PartialEq, Eq)]
+pub enum Yardstick {
+    /// The Rust as it is.
+    Original,
+    /// The one in which every Int that some f64 equals becomes a float, where it says something else.
+    Exact,
+}
+
+/// The original and the exact oracle, asked side by side.
+pub struct Oracles {
+    original: Oracle,
+    exact: Oracle,
+}
+
+impl Oracles {
+    /// Of the programs of both.
+    pub fn start([original, exact]: &[String; 2]) -> Oracles {
+        Oracles {
+            original: Oracle::start(original),
+            exact: Oracle::start(exact),
+        }
+    }
+
+    /// What folders are held to on each input of a batch. Where an oracle ends before its time, the number of the input
+    /// that it ends on.
+    pub fn ask(&mut self, inputs: &[&[u8]]) -> Result<Vec<(Said, Yardstick)>, usize> {
+        let mut batch = Vec::new();
+        for input in inputs {
+            batch.extend((input.len() as u32).to_le_bytes());
+            batch.extend(*input);
+        }
+        let (original, exact) = self.lines(&batch, inputs.len())?;
+        let lines = original.iter().zip(&exact);
+        let held = inputs.iter().zip(lines);
+        let held = held.map(|(input, (original, exact))| held_to(input, original, exact));
+        Ok(held.collect())
+    }
+
+    /// The lines of both on a batch of so many inputs, or the first input that one ends on.
+    fn lines(&mut self, batch: &[u8], count: usize) -> Result<(Vec<String>, Vec<String>), usize> {
+        let Oracles { original, exact } = self;
+        let both = thread::scope(|scope| {
+            let exact = scope.spawn(|| exact.lines(batch, count));
+            let original = original.lines(batch, count);
+            (original, exact.join().expect("it does not panic"))
+        });
+        match both {
+            (Ok(original), Ok(exact)) => Ok((original, exact)),
+            (Err(at), Ok(_)) | (Ok(_), Err(at)) => Err(at),
+            (Err(at), Err(other)) => Err(at.min(other)),
+        }
+    }
+
+    pub fn ask_one(&mut self, input: &[u8]) -> Option<Said> {
+        let (said, _) = self.ask(&[input]).ok()?.pop()?;
+        Some(said)
+    }
+}
+
+/// What folders are held to on an input, of both oracles' lines.
+fn held_to(input: &[u8], original: &str, exact: &str) -> (Said, Yardstick) {
+    let said = Said::parse(original, input);
+    if original == exact {
+        return (said, Yardstick::Original);
+    }
+    let exact = Said::parse(exact, input);
+    match said.agrees(&exact) {
+        true => (said, Yardstick::Original),
+        false => (exact, Yardstick::Exact),
+    }
+}
+
+/// The program of one oracle.
+struct Oracle {
     child: Child,
     stdin: ChildStdin,
     stdout: BufReader<ChildStdout>,
 }
 
 impl Oracle {
-    pub fn start(program: &str) -> Oracle {
+    fn start(program: &str) -> Oracle {
         let mut child = Command::new(program)
             .stdin(Stdio::piped())
             .stdout(Stdio::piped())
@@ -120,32 +201,23 @@ impl Oracle {
         }
     }
 
-    /// Asks a batch. Where the oracle ends before its time, the number of the input that it ends on.
-    pub fn ask(&mut self, inputs: &[&[u8]]) -> Result<Vec<Said>, usize> {
-        let mut batch = Vec::new();
-        for input in inputs {
-            batch.extend((input.len() as u32).to_le_bytes());
-            batch.extend(*input);
-        }
+    /// The lines on a batch of so many inputs. Where the oracle ends before its time, the number of the input that it
+    /// ends on.
+    fn lines(&mut self, batch: &[u8], count: usize) -> Result<Vec<String>, usize> {
         let (stdin, stdout) = (&mut self.stdin, &mut self.stdout);
         thread::scope(|scope| {
             // Where the oracle has ended, writing fails, and reading says so.
-            scope.spawn(move || _ = stdin.write_all(&batch).and_then(|()| stdin.flush()));
-            let mut said = Vec::with_capacity(inputs.len());
-            let mut line = String::new();
-            while said.len() < inputs.len() {
-                line.clear();
+            scope.spawn(move || _ = stdin.write_all(batch).and_then(|()| stdin.flush()));
+            let mut lines = Vec::with_capacity(count);
+            while lines.len() < count {
+                let mut line = String::new();
                 match stdout.read_line(&mut line) {
-                    Ok(1..) => said.push(Said::parse(line.trim_end(), inputs[said.len()])),
-                    _ => return Err(said.len()),
+                    Ok(1..) => lines.push(line),
+                    _ => return Err(lines.len()),
                 }
             }
-            Ok(said)
+            Ok(lines)
         })
-    }
-
-    pub fn ask_one(&mut self, input: &[u8]) -> Option<Said> {
-        self.ask(&[input]).ok()?.pop()
     }
 }
 

@@ -1,5 +1,5 @@
-//! The original Rust on a graph: its data are made before, its fold is run, its answer is written
-//! after as records.
+//! The original Rust, with the exact oracle's edit, on a graph: its data are made before, its fold is run, its answer is
+//! written after as records.
 use crate::graph::{self, Graph};
 use wirescript::lower::fold::harness::{self, Folded, Rewriting};
 

@@ -1,6 +1,6 @@
 //! Counts what a run has met, and prints them.
 use crate::alike::{Zeros, has_zero, parts, records};
-use crate::oracle::Said;
+use crate::oracle::{Said, Yardstick};
 use crate::records::{class, kind};
 use crate::table::{Table, whole};
 use crate::tables::{CLASS_NAMES, VARIANT_NAMES};
@@ -14,6 +14,8 @@ pub struct Tally {
     pub inputs: usize,
     /// Inputs, for a buffer that is long enough.
     families: BTreeMap<&'static str, ByNumber>,
+    /// Those of them that are held to the exact oracle.
+    exact: ByNumber,
     /// Folds, each of an input and a length of buffer.
     folds: ByNumber,
     /// Different places of each refusal.
@@ -29,10 +31,18 @@ impl Tally {
         self.folds[usize::from(said.wanted(buffer).0.number)] += 1;
     }
 
-    pub fn add_input(&mut self, family: &'static str, input: &[u8], said: &Said) {
+    pub fn add_input(
+        &mut self,
+        family: &'static str,
+        input: &[u8],
+        said: &Said,
+        yardstick: Yardstick,
+    ) {
         let (outcome, answer) = said.wanted(usize::MAX);
+        let number = usize::from(outcome.number);
         self.inputs += 1;
-        self.families.entry(family).or_default()[usize::from(outcome.number)] += 1;
+        self.families.entry(family).or_default()[number] += 1;
+        self.exact[number] += usize::from(yardstick == Yardstick::Exact);
         if outcome.number == 0 {
             self.add_answer(input, answer, said.is_bag(), outcome.pops);
         } else {
@@ -144,6 +154,7 @@ impl Tally {
             }
         }
         table.row(cells("all", &sums));
+        table.row(cells("held to the exact oracle", &self.exact));
         table.print("Inputs by outcome, accepted or the refusal's number");
     }
 

@@ -43,9 +43,11 @@ fn finite(x: f64) -> Option<Value> {
     x.is_finite().then_some(Value::Float(x))
 }
 
+/// The float that equals an Int exactly, where there is one.
 fn int_as_float(n: i64) -> Option<f64> {
-    const LIMIT: i64 = 1 << 53;
-    (-LIMIT..=LIMIT).contains(&n).then_some(n as f64)
+    let x = n as f64;
+    // The largest Int rounds to 2^63, which saturates back to it.
+    (x as i64 == n && n != i64::MAX).then_some(x)
 }
 
 impl Operand<'_> {

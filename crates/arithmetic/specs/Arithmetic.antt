@@ -51,7 +51,7 @@ floatsMath op (OptionFloat.Some x) (OptionFloat.Some y) = floatMath op x y
 floatsMath op (OptionFloat.Some x) OptionFloat.None = OptionValue.None
 floatsMath op OptionFloat.None y = OptionValue.None
 
--- one whole operand beside a float becomes a float
+-- an operand among floats: a whole one becomes a float, or None where no f64 equals it
 abbrev pub asReal : MathIn → OptionFloat
 asReal MathIn.None = OptionFloat.None
 asReal (MathIn.I n) = intAsF64 n
@@ -59,10 +59,10 @@ asReal (MathIn.F x) = OptionFloat.Some x
 
 abbrev pub numbersMath : MathOp → MathIn → MathIn → OptionValue
 numbersMath op (MathIn.I a) (MathIn.I b) = givenInt (wholeOp op a b)
-numbersMath op (MathIn.I a) (MathIn.F y) = floatsMath op (intAsF64 a) (OptionFloat.Some y)
-numbersMath op (MathIn.I a) MathIn.None = OptionValue.None
-numbersMath op (MathIn.F x) b = floatsMath op (OptionFloat.Some x) (asReal b)
-numbersMath op MathIn.None b = OptionValue.None
+numbersMath op (MathIn.I a) (MathIn.F y) = floatsMath op (asReal (MathIn.I a)) (asReal (MathIn.F y))
+numbersMath op (MathIn.I a) MathIn.None = floatsMath op (asReal (MathIn.I a)) (asReal MathIn.None)
+numbersMath op (MathIn.F x) b = floatsMath op (asReal (MathIn.F x)) (asReal b)
+numbersMath op MathIn.None b = floatsMath op (asReal MathIn.None) (asReal b)
 
 -- "Vector with Vector or a scalar (Unwired, Int, Float, Bool) goes part by part without that sign rule; a non-finite part gives None.
 -- A Rotator, Quat or Color operand gives None." A scalar stands for all three parts

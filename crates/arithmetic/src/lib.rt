@@ -88,13 +88,13 @@ fn to_f(a: MathIn) -> OptionFloat
     }
 }
 
-fn floats_math(op: MathOp, a: MathIn, b: MathIn) -> OptionValue
-    ensures { λ r. ⌜ r ≡ floatsMath op (asReal a) (asReal b) ⌝ }
+fn floats_math(op: MathOp, a: OptionFloat, b: OptionFloat) -> OptionValue
+    ensures { λ r. ⌜ r ≡ floatsMath op a b ⌝ }
 {
-    let OptionFloat::Some(x) = to_f(a) else {
+    let OptionFloat::Some(x) = a else {
         return OptionValue::None;
     };
-    let OptionFloat::Some(y) = to_f(b) else {
+    let OptionFloat::Some(y) = b else {
         return OptionValue::None;
     };
     float_math(op, x, y)
@@ -104,10 +104,10 @@ fn numbers_math(op: MathOp, a: MathIn, b: MathIn) -> OptionValue
     ensures { λ r. ⌜ r ≡ numbersMath op a b ⌝ }
 {
     let MathIn::I(m) = a else {
-        return floats_math(op, a, b);
+        return floats_math(op, to_f(a), to_f(b));
     };
     let MathIn::I(n) = b else {
-        return floats_math(op, a, b);
+        return floats_math(op, to_f(a), to_f(b));
     };
     conversions::given_int(whole_op(op, m, n))
 }

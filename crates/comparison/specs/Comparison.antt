@@ -21,7 +21,7 @@ use Rattle.comparison.specs.declared.OptionBool.{OptionBool}
 unfoldable pub eqS : Float → Float → Bool
 eqS x y = eq (sanitizeOf x) (sanitizeOf y)
 
--- "Float with .. Int by S", the Int as a float
+-- "Float with .. Int by S", the Int as a float; None where no f64 equals it
 abbrev pub eqOptionS : OptionFloat → Float → OptionBool
 eqOptionS (OptionFloat.Some x) y = OptionBool.Some (eq x (sanitizeOf y))
 eqOptionS OptionFloat.None y = OptionBool.None

@@ -33,7 +33,8 @@ abbrev pub truthyOf : Operand → Bool
 truthyOf Operand.Unwired = false
 truthyOf (Operand.Known v) = truthyValue v
 
--- Order gates: "by float with S, Unwired 0, Bool 0 or 1; composites None". So too "a scalar (Unwired, Int, Float, Bool)" beside a Vector
+-- Order gates: "by float with S, Unwired 0, Bool 0 or 1; composites None". So too "a scalar (Unwired, Int, Float, Bool)" beside a Vector.
+-- An Int that no f64 equals is None.
 abbrev pub scalarValue : Value → OptionFloat
 scalarValue (Value.Int n) = intAsF64 n
 scalarValue (Value.Float x) = OptionFloat.Some (sanitizeOf x)
@@ -61,7 +62,7 @@ abbrev pub mathInOf : Operand → MathIn
 mathInOf Operand.Unwired = MathIn.I (pos 0)
 mathInOf (Operand.Known v) = mathInValue v
 
--- Abs to Ceil: "An Unwired operand gives None. Else floats without S, Bool and composites None"
+-- Abs to Ceil: "An Unwired operand gives None. Else floats without S, Bool and composites None". An Int that no f64 equals is None.
 abbrev pub asFloatValue : Value → OptionFloat
 asFloatValue (Value.Int n) = intAsF64 n
 asFloatValue (Value.Float x) = OptionFloat.Some x

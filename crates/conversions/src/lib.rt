@@ -85,7 +85,7 @@ fn scalar_value(v: Value) -> OptionFloat
     }
 }
 
-// The float of an operand for the order gates and beside a Vector: the Rust's ord_num and broadcast_scalar.
+// The float of an operand for the order gates and beside a Vector, where the Rust has ord_num and broadcast_scalar.
 pub fn scalar(a: Operand) -> OptionFloat
     ensures { λ r. ⌜ r ≡ scalarOf a ⌝ }
 {

@@ -69,6 +69,12 @@ maxOperands a b =
 abbrev pub clampInt : ℤ → ℤ → ℤ → ℤ
 clampInt n lo hi = minOf (maxOf n lo) hi
 
+abbrev pub clampInts : OptionInt → OptionInt → OptionInt → OptionInt
+clampInts OptionInt.None b c = OptionInt.None
+clampInts (OptionInt.Some n) OptionInt.None c = OptionInt.None
+clampInts (OptionInt.Some n) (OptionInt.Some lo) OptionInt.None = OptionInt.None
+clampInts (OptionInt.Some n) (OptionInt.Some lo) (OptionInt.Some hi) = OptionInt.Some (clampInt n lo hi)
+
 abbrev pub clampFloat : Float → Float → Float → Float
 clampFloat x lo hi = minimumNumber (maximumNumber x lo) hi
 
@@ -80,11 +86,7 @@ clampFloats a b c =
     givenFinite (clampFloat x lo hi))))
 
 abbrev pub clampOf : Operand → Operand → Operand → OptionValue
-clampOf a b c =
-    onIntElse (asIntOf a) (clampFloats a b c) (λ n.
-    onIntElse (asIntOf b) (clampFloats a b c) (λ lo.
-    onIntElse (asIntOf c) (clampFloats a b c) (λ hi.
-    int (clampInt n lo hi))))
+clampOf a b c = onIntElse (clampInts (asIntOf a) (asIntOf b) (asIntOf c)) (clampFloats a b c) int
 
 abbrev pub floatOne : Float
 floatOne = ofBits binary64 0x3ff0_0000_0000_0000

@@ -2,7 +2,7 @@
 ghost use mathlib.Core.Path.{_≡_};
 ghost use mathlib.Core.Bool.{cond};
 ghost use lib.Ieee.{isNan};
-ghost use Rattle.extended.specs.Extended.{givenFinite, absFloat, absOf, minFloats, minOperands, maxFloats, maxOperands, clampInt, clampFloat, clampFloats, clampOf, signFloat, signOf, negateOf, moduloFloored, moduloFlooredOf, roundGate, floorGate, ceilGate};
+ghost use Rattle.extended.specs.Extended.{givenFinite, absFloat, absOf, minFloats, minOperands, maxFloats, maxOperands, clampInt, clampInts, clampFloat, clampFloats, clampOf, signFloat, signOf, negateOf, moduloFloored, moduloFlooredOf, roundGate, floorGate, ceilGate};
 ghost use Rattle.extended.specs.Extremes as Extremes;
 ghost use Rattle.extended.specs.Extremes.{follows, minimumNumber, maximumNumber, Extreme};
 use value::Operand;
@@ -139,6 +139,22 @@ fn clamp_int(n: i64, lo: i64, hi: i64) -> i64
     whole::min(whole::max(n, lo), hi)
 }
 
+// All three whole.
+fn clamp_ints(a: OptionInt, b: OptionInt, c: OptionInt) -> OptionInt
+    ensures { λ r. ⌜ r ≡ clampInts a b c ⌝ }
+{
+    let OptionInt::Some(n) = a else {
+        return OptionInt::None;
+    };
+    let OptionInt::Some(lo) = b else {
+        return OptionInt::None;
+    };
+    let OptionInt::Some(hi) = c else {
+        return OptionInt::None;
+    };
+    OptionInt::Some(clamp_int(n, lo, hi))
+}
+
 fn clamp_float(x: f64, lo: f64, hi: f64) -> f64
     ensures { λ r. ⌜ r ≡ clampFloat x lo hi ⌝ }
 {
@@ -163,16 +179,15 @@ fn clamp_floats(a: Operand, b: Operand, c: Operand) -> OptionValue
 pub fn clamp(a: Operand, b: Operand, c: Operand) -> OptionValue
     ensures { λ r. ⌜ r ≡ clampOf a b c ⌝ }
 {
-    let OptionInt::Some(n) = conversions::as_int(a) else {
+    let ints = clamp_ints(
+        conversions::as_int(a),
+        conversions::as_int(b),
+        conversions::as_int(c),
+    );
+    let OptionInt::Some(n) = ints else {
         return clamp_floats(a, b, c);
     };
-    let OptionInt::Some(lo) = conversions::as_int(b) else {
-        return clamp_floats(a, b, c);
-    };
-    let OptionInt::Some(hi) = conversions::as_int(c) else {
-        return clamp_floats(a, b, c);
-    };
-    OptionValue::Some(Value::Int(clamp_int(n, lo, hi)))
+    OptionValue::Some(Value::Int(n))
 }
 
 fn sign_float(x: f64) -> f64

@@ -12,7 +12,6 @@ use Rattle.ieee.specs.Finite.{finiteOf}
 use Rattle.ieee.specs.Integral.{floorOf, ceilOf, roundOf}
 use Rattle.whole.specs.Checked.{checkedAbsOf, checkedNegOf}
 use Rattle.whole.specs.Bits.{shiftLeftOf, shiftRightOf}
-use Rattle.whole.specs.Convert.{intAsF64}
 use Rattle.whole.specs.declared.OptionInt.{OptionInt}
 use Rattle.whole.specs.declared.OptionFloat.{OptionFloat}
 use Rattle.value.specs.declared.Value.{Value}
@@ -93,8 +92,8 @@ floatsMath op OptionFloat.None q = refl
 
 numbersMath : (op : MathOp) (r q : MathIn) → Sound (A.numbersMath op r q)
 numbersMath op (MathIn.I a) (MathIn.I b) = int (A.wholeOp op a b)
-numbersMath op (MathIn.I a) (MathIn.F y) = floatsMath op (intAsF64 a) (OptionFloat.Some y)
-numbersMath op (MathIn.I a) MathIn.None = refl
+numbersMath op (MathIn.I a) (MathIn.F y) = floatsMath op (A.asReal (MathIn.I a)) (OptionFloat.Some y)
+numbersMath op (MathIn.I a) MathIn.None = floatsMath op (A.asReal (MathIn.I a)) OptionFloat.None
 numbersMath op (MathIn.F x) q = floatsMath op (OptionFloat.Some x) (A.asReal q)
 numbersMath op MathIn.None q = refl
 
@@ -192,7 +191,7 @@ all-sound = (
                                                       (
                                                         (λ a b c. ints a b _ _ (onFloat (asFloatOf a) _ (λ x. onFloat (asFloatOf b) _ (λ y. finite (X.maximumNumber x y)))) (λ m n. refl)),
                                                         (
-                                                          (λ a b c. onIntElse (asIntOf a) _ _ (clampFloats a b c) (λ n. ints b c _ _ (clampFloats a b c) (λ lo hi. refl))),
+                                                          (λ a b c. onIntElse (E.clampInts (asIntOf a) (asIntOf b) (asIntOf c)) _ _ (clampFloats a b c) (λ n. refl)),
                                                           (
                                                             (λ a b c. onFloat (asFloatOf a) _ (λ x. onFloat (asFloatOf b) _ (λ y. finite (E.moduloFloored x y)))),
                                                             (

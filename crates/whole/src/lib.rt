@@ -1,11 +1,12 @@
 // Arithmetic on Ints, the gates' whole numbers. The names are those of Rust's methods of `i64` where it has one.
 ghost use mathlib.Core.Path.{_≡_};
-ghost use Prim.Native.Nat.{_+_, _*_, _^_, _≤_};
+ghost use Prim.Native.Nat.{_+_, _*_, _%_, _^_, _≤_};
 ghost use lib.Dec.{leb};
+ghost use lib.Count.{trailingZeros};
 ghost use lib.IntN.{pos, natAbs, _+ℤ_, _*ℤ_};
 ghost use lib.Signed.{ltZ, leZ};
-ghost use lib.Ieee.{Float};
-ghost use Rattle.whole.specs.Convert.{intOfBool, intAsF64, IsInt};
+ghost use lib.Ieee.{Float, binary64, ofInt};
+ghost use Rattle.whole.specs.Convert.{intOfBool, intAsF64, EqualsInt, Examples};
 ghost use Rattle.whole.specs.Compare.{eqZ, minOf, maxOf};
 ghost use Rattle.whole.specs.Checked.{inRange, checkedAddOf, checkedSubOf, checkedMulOf, divisionOverflows, divOf, remOf, checkedAbsOf, checkedNegOf};
 ghost use Rattle.whole.specs.Bits.{toBits, fromBits, andOf, orOf, xorOf, notOf, nandOf, norOf, shiftInRange, shiftLeftOf, shiftRightOf, bitCountOf};
@@ -30,16 +31,32 @@ pub fn int_of_bool(b: bool) -> i64
     if b { 1 } else { 0 }
 }
 
-// Up to this size every Int is a float.
+// Below this size every Int is a float.
 const LIMIT: i64 = 1 << 53;
 
-// The float that is the Int.
+// How many zeros the binary digits of a size end with, counted up to 11: with 11 off, an Int's size is below the limit.
+fn exponent(size: u64) -> u32
+    ensures { λ r. ⌜ r ≡ trailingZeros 11 size ⌝ }
+{
+    let zeros = u64::trailing_zeros(size);
+    if zeros < 11 { zeros } else { 11 }
+}
+
+// The float that equals the Int. With k zeros off, an Int is m times 2^k, and a float exactly where m is below the limit in size.
 pub fn int_as_f64(n: i64) -> OptionFloat
     ensures value { λ r. ⌜ r ≡ intAsF64 n ⌝ }
-    ensures exact { λ r. ⌜ ((x : Float) → r ≡ OptionFloat.Some x → IsInt x n) ⌝ }
+    ensures exact { λ r. ⌜ ((x : Float) → r ≡ OptionFloat.Some x → EqualsInt x n) ⌝ }
+    ensures whenever { λ r. ⌜ ((x : Float) → EqualsInt x n → r ≡ OptionFloat.Some (ofInt binary64 n)) ⌝ }
+    ensures short { λ r. ⌜ (natAbs n ≤ 2 ^ 53 → r ≡ OptionFloat.Some (ofInt binary64 n)) ⌝ }
+    ensures counters { λ r. ⌜ (natAbs n % 1024 ≡ 0 → r ≡ OptionFloat.Some (ofInt binary64 n)) ⌝ }
+    ensures examples { λ _. ⌜ Examples ⌝ }
 {
-    if (-LIMIT <= n) & (n <= LIMIT) {
-        OptionFloat::Some(n as f64)
+    let k = exponent(unsigned_abs(n));
+    let m = n >> k;
+    if (-LIMIT < m) & (m < LIMIT) {
+        let significand = m as f64;
+        let power = (1u64 << k) as f64;
+        OptionFloat::Some(significand * power)
     } else {
         OptionFloat::None
     }

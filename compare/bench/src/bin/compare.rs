@@ -1,16 +1,16 @@
-//! Folds inputs with the oracle's program and with each folder that is linked, and holds these to it; the proved one to
-//! the plain one's zeros where the Rust leaves their sign open.
+//! Folds inputs with the oracles' programs and with each folder that is linked, and holds these to the original, or to the
+//! exact oracle where the two differ; the proved one to the plain one's zeros where the Rust leaves their sign open.
 //!
-//!     compare ORACLE COUNT SEED
+//!     compare ORACLE EXACT COUNT SEED
 //!
-//! ORACLE is the program that compare/oracle/build makes. The inputs are certain graphs, every run of at most two
-//! bytes, and COUNT made at random from SEED. Where a folder differs, the smallest input found is printed with both
+//! ORACLE and EXACT are the programs that compare/oracle/build makes. The inputs are certain graphs, every run of at most
+//! two bytes, and COUNT made at random from SEED. Where a folder differs, the smallest input found is printed with both
 //! answers, and the exit status is 1. docs/COMPARISON.md says what is held alike.
 use bench::alike::Zeros;
 use bench::families;
 use bench::folders::{self, Fold, Outcome};
 use bench::held::{self, Difference, Paint, buffers};
-use bench::oracle::{Oracle, Said};
+use bench::oracle::{Oracles, Said, Yardstick};
 use bench::progress::Progress;
 use bench::shapes;
 use bench::shrink;
@@ -35,7 +35,8 @@ struct Case {
 fn cases(count: u64, seed: u64) -> impl Iterator<Item = Case> {
     let certain = |family| move |input| Case { family, input };
     let shapes = shapes::all().into_iter().map(|shape| shape.input);
-    let shapes = shapes.chain(shapes::limits()).chain(shapes::zeros());
+    let shapes = shapes.chain(shapes::limits());
+    let shapes = shapes.chain(shapes::zeros()).chain(shapes::long_ints());
     let shapes = shapes.map(certain("certain"));
     let short = families::short_inputs().map(certain("two bytes"));
     let random = (0..count).map(move |index| {
@@ -45,19 +46,19 @@ fn cases(count: u64, seed: u64) -> impl Iterator<Item = Case> {
     shapes.chain(short).chain(random)
 }
 
-/// Cases with what the oracle says, or the one that it ends on.
-type Asked = Result<Vec<(Case, Said)>, Case>;
+/// Cases with what folders are held to, or the one that an oracle ends on.
+type Asked = Result<Vec<(Case, (Said, Yardstick))>, Case>;
 
-/// Asks the oracle of all cases, batch by batch.
-fn ask(program: &str, mut cases: impl Iterator<Item = Case>, sender: &SyncSender<Asked>) {
-    let mut oracle = Oracle::start(program);
+/// Asks the oracles of all cases, batch by batch.
+fn ask(programs: &[String; 2], mut cases: impl Iterator<Item = Case>, sender: &SyncSender<Asked>) {
+    let mut oracles = Oracles::start(programs);
     loop {
         let mut batch: Vec<Case> = cases.by_ref().take(BATCH).collect();
         if batch.is_empty() {
             return;
         }
         let inputs: Vec<&[u8]> = batch.iter().map(|case| &case.input[..]).collect();
-        let asked = match oracle.ask(&inputs) {
+        let asked = match oracles.ask(&inputs) {
             Ok(said) => Ok(batch.into_iter().zip(said).collect()),
             Err(at) => Err(batch.swap_remove(at)),
         };
@@ -88,9 +89,10 @@ impl Comparison {
         }
     }
 
-    fn add(&mut self, case: Case, said: &Said) {
+    fn add(&mut self, case: Case, said: &Said, yardstick: Yardstick) {
         let wide = self.tally.inputs % WIDE == 0;
-        self.tally.add_input(case.family, &case.input, said);
+        self.tally
+            .add_input(case.family, &case.input, said, yardstick);
         if said.zeros() == Zeros::Alike {
             let signed = held::signed(&case.input, said);
             self.tally
@@ -133,15 +135,15 @@ impl Comparison {
     }
 
     /// Prints, for each folder that differs, the smallest input found.
-    fn report(&mut self, program: &str) {
-        let mut oracle = Oracle::start(program);
+    fn report(&mut self, programs: &[String; 2]) {
+        let mut oracles = Oracles::start(programs);
         for (folder, cases) in std::mem::take(&mut self.differing) {
             let shortest = cases
                 .iter()
                 .min_by_key(|case| case.input.len())
                 .expect("one differs");
             let mut on = |input: &[u8]| {
-                let said = oracle.ask_one(input)?;
+                let said = oracles.ask_one(input)?;
                 self.difference(folder, input, &said, &buffers(&said, true))
             };
             let input = shrink::smallest(&shortest.input, |input| on(input).is_some());
@@ -165,7 +167,7 @@ impl Comparison {
         self.tally.print();
         let names: Vec<&str> = self.folders.iter().map(|(name, _)| *name).collect();
         println!(
-            "{} inputs, {} folds by {} beside the oracle, seed {seed}, {} s: {}",
+            "{} inputs, {} folds by {} beside the oracles, seed {seed}, {} s: {}",
             self.tally.inputs,
             self.tally.fold_count(),
             names.join(" and by "),
@@ -210,25 +212,25 @@ fn hex(bytes: &[u8]) -> String {
 }
 
 /// Compares on all cases, up to the batch in which a folder differs; whether none does.
-fn run(program: &str, count: u64, seed: u64) -> bool {
+fn run(programs: &[String; 2], count: u64, seed: u64) -> bool {
     let total = cases(0, seed).count() + count as usize;
     let mut comparison = Comparison::new();
     let mut progress = Progress::default();
     let (sender, receiver) = sync_channel(4);
     let alike = thread::scope(|scope| {
-        scope.spawn(move || ask(program, cases(count, seed), &sender));
+        scope.spawn(move || ask(programs, cases(count, seed), &sender));
         hold(&mut comparison, receiver, &mut progress, total)
     });
     progress.clear();
     if alike {
         comparison.print(seed, &progress);
     } else {
-        comparison.report(program);
+        comparison.report(programs);
     }
     alike && comparison.tally.inputs == total
 }
 
-/// Adds what the oracle says, batch by batch, to the comparison; whether no folder differs, and the oracle goes on.
+/// Adds what the oracles say, batch by batch, to the comparison; whether no folder differs, and the oracles go on.
 fn hold(
     comparison: &mut Comparison,
     receiver: Receiver<Asked>,
@@ -240,12 +242,12 @@ fn hold(
             Ok(batch) => batch,
             Err(Case { family, input }) => {
                 let input = hex(&input);
-                println!("the oracle ends on an input from '{family}': {input}");
+                println!("an oracle ends on an input from '{family}': {input}");
                 return false;
             }
         };
-        for (case, said) in batch {
-            comparison.add(case, &said);
+        for (case, (said, yardstick)) in batch {
+            comparison.add(case, &said, yardstick);
         }
         progress.tell(comparison.tally.inputs, total);
         if !comparison.alike() {
@@ -257,17 +259,14 @@ fn hold(
 
 fn main() -> ExitCode {
     let arguments: Vec<String> = std::env::args().skip(1).collect();
-    let numbers: Vec<u64> = arguments
-        .iter()
-        .skip(1)
-        .flat_map(|word| word.parse())
-        .collect();
-    let (Some(oracle), &[count, seed]) = (arguments.first(), &numbers[..]) else {
-        eprintln!("usage: compare ORACLE COUNT SEED");
+    let (programs, numbers) = arguments.split_at(arguments.len().min(2));
+    let numbers: Vec<u64> = numbers.iter().flat_map(|word| word.parse()).collect();
+    let (Ok(programs), &[count, seed]) = (programs.try_into(), &numbers[..]) else {
+        eprintln!("usage: compare ORACLE EXACT COUNT SEED");
         return ExitCode::from(2);
     };
     held::silence_folders();
-    match run(oracle, count, seed) {
+    match run(programs, count, seed) {
         true => ExitCode::SUCCESS,
         false => ExitCode::FAILURE,
     }

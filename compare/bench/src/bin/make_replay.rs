@@ -1,6 +1,7 @@
-//! Writes folds with what the oracle says of them, which the program crates/replay runs, to standard output.
+//! Writes folds with what the oracle says of them, which the program crates/replay runs, to standard output; where the exact
+//! oracle differs, with what that says.
 //!
-//!     make_replay ORACLE
+//!     make_replay ORACLE EXACT
 //!
 //! Inputs of a fixed seed are taken from the front as long as their bucket, of family and outcome, has room, and certain
 //! ones. NaNs are written 7FF8000000000000, and zeros as the plain folder has them where the Rust leaves their sign
@@ -8,7 +9,7 @@
 use bench::alike::normal_nans;
 use bench::families;
 use bench::held::{BUFFER, buffers, signed};
-use bench::oracle::{Oracle, Said};
+use bench::oracle::{Oracles, Said};
 use bench::records::limit;
 use bench::shapes;
 use std::collections::BTreeMap;
@@ -53,15 +54,15 @@ fn taken(input: &[u8], said: &Said) -> bool {
 }
 
 /// Cases at random, a bucket for each family and outcome.
-fn random_cases(oracle: &mut Oracle, cases: &mut Vec<Vec<u8>>) {
+fn random_cases(oracles: &mut Oracles, cases: &mut Vec<Vec<u8>>) {
     let mut buckets: BTreeMap<(&str, u8), usize> = BTreeMap::new();
     for start in (0..INPUTS).step_by(BATCH as usize) {
         let batch: Vec<_> = (start..start + BATCH)
             .map(|index| families::input(SEED, index))
             .collect();
         let inputs: Vec<&[u8]> = batch.iter().map(|(_, input)| &input[..]).collect();
-        let said = oracle.ask(&inputs).expect("the oracle answers all");
-        for ((family, input), said) in batch.iter().zip(said) {
+        let said = oracles.ask(&inputs).expect("the oracles answer all");
+        for ((family, input), (said, _)) in batch.iter().zip(said) {
             let lengths = buffers(&said, false);
             let buffer = lengths[cases.len() % lengths.len()];
             let number = said.wanted(buffer).0.number;
@@ -74,26 +75,27 @@ fn random_cases(oracle: &mut Oracle, cases: &mut Vec<Vec<u8>>) {
     }
 }
 
-/// Inputs at and past the limits, of those that are no records one, and zeros in Min, Max and Clamp, each into the program's
-/// buffer.
-fn certain_cases(oracle: &mut Oracle, cases: &mut Vec<Vec<u8>>) {
+/// Inputs at and past the limits, of those that are no records one, zeros in Min, Max and Clamp, and Ints around and beyond
+/// 2^53, each into the program's buffer.
+fn certain_cases(oracles: &mut Oracles, cases: &mut Vec<Vec<u8>>) {
     let limits = shapes::limits().into_iter();
     let limits = limits.filter(|input| input.len() != limit::INPUT);
-    for input in limits.chain(shapes::zeros()) {
-        let said = oracle.ask_one(&input).expect("the oracle answers all");
+    for input in limits.chain(shapes::zeros()).chain(shapes::long_ints()) {
+        let said = oracles.ask_one(&input).expect("the oracles answer all");
         cases.push(case(&input, &said, BUFFER));
     }
 }
 
 fn main() -> ExitCode {
-    let Some(program) = std::env::args().nth(1) else {
-        eprintln!("usage: make_replay ORACLE");
+    let arguments: Vec<String> = std::env::args().skip(1).collect();
+    let Ok(programs) = arguments[..].try_into() else {
+        eprintln!("usage: make_replay ORACLE EXACT");
         return ExitCode::from(2);
     };
-    let mut oracle = Oracle::start(&program);
+    let mut oracles = Oracles::start(programs);
     let mut cases = Vec::new();
-    random_cases(&mut oracle, &mut cases);
-    certain_cases(&mut oracle, &mut cases);
+    random_cases(&mut oracles, &mut cases);
+    certain_cases(&mut oracles, &mut cases);
     eprintln!("{}", cases.len());
     let written = stdout().write_all(&cases.concat());
     written.map_or(ExitCode::FAILURE, |()| ExitCode::SUCCESS)

@@ -1,6 +1,6 @@
 //! Harness, no part of the Rust: fills a `CertifiedTable` from a graph's rows and annihilators and
 //! puts it where `certified` finds it; and lets the program call `eval_in`. A child module of
-//! table.rs reaches the private items of table.rs and semantics.rs, so semantics.rs stays as it is.
+//! table.rs reaches the private items of table.rs and semantics.rs, so it needs no edit of semantics.rs.
 use super::super::{Mode, Value, eval_in};
 use super::{AnnihilatorKind, CertifiedTable, GateEntry, InVariant};
 use crate::collections::{HashMap, HashSet};
