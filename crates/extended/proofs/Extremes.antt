@@ -89,17 +89,17 @@ precedes-no-nan (fin s m e) nan h = absurd (false≢true h)
 precedes-no-nan (fin s m e) (inf t) h = (refl, refl)
 precedes-no-nan (fin s m e) (fin t n d) h = (refl, refl)
 
--- before is an order in which no NaN stands and every other float does
-pub record Linear (before : Float → Float → Bool) : Type 0 where
+-- of two floats that differ, NaNs aside, one stands before the other and not the other before it; no NaN stands before any
+pub record Trichotomous (before : Float → Float → Bool) : Type 0 where
   pub asymmetric : (x y : Float) → before x y ≡ true → before y x ≡ false
   pub total : (x y : Float) → T (fits binary64 x) → T (fits binary64 y) → isNan x ≡ false → isNan y ≡ false → before x y ≡ false → before y x ≡ false → x ≡ y
   pub no-nan : (x y : Float) → before x y ≡ true → isNan x ≡ false
 
-pub precedes-linear : Linear precedes
-precedes-linear = record { asymmetric = precedes-asymmetric; total = precedes-total; no-nan = λ x y h. precedes-no-nan x y h .0 }
+pub precedes-trichotomous : Trichotomous precedes
+precedes-trichotomous = record { asymmetric = precedes-asymmetric; total = precedes-total; no-nan = λ x y h. precedes-no-nan x y h .0 }
 
-pub follows-linear : Linear follows
-follows-linear =
+pub follows-trichotomous : Trichotomous follows
+follows-trichotomous =
     record {
       asymmetric = λ x y. precedes-asymmetric y x;
       total = λ x y p q i j f g. precedes-total x y p q i j g f;
@@ -108,7 +108,7 @@ follows-linear =
 
 -- ---- The operand that comes first
 
-not-itself : {before : Float → Float → Bool} → Linear before → (x : Float) → before x x ≡ false
+not-itself : {before : Float → Float → Bool} → Trichotomous before → (x : Float) → before x x ≡ false
 not-itself {before} o x = go (before x x) refl
   where
     go : (b : Bool) → before x x ≡ b → b ≡ false
@@ -125,7 +125,7 @@ neither : (i j : Bool) → j ≡ false → j ≡ i && j
 neither true j h = refl
 neither false j h = h
 
-extreme : (before : Float → Float → Bool) → Linear before → (x y : Float) → Extreme before x y (extremeNumber before x y)
+extreme : (before : Float → Float → Bool) → Trichotomous before → (x y : Float) → Extreme before x y (extremeNumber before x y)
 extreme before o x y = go (before x y) (before y x) (isNan x) refl refl refl
   where
     go : (b c i : Bool) → before x y ≡ b → before y x ≡ c → isNan x ≡ i → Extreme before x y (cond b x (cond c y (cond i y x)))
@@ -138,7 +138,7 @@ extreme before o x y = go (before x y) (before y x) (isNan x) refl refl refl
     go false false false f g k =
         record { operand = inl refl; same = λ h. refl; number = rw k; xNotBefore = not-itself o x; yNotBefore = g }
 
-either-way : (before : Float → Float → Bool) → Linear before → (x y : Float) → T (fits binary64 x) → T (fits binary64 y) → extremeNumber before x y ≡ extremeNumber before y x
+either-way : (before : Float → Float → Bool) → Trichotomous before → (x y : Float) → T (fits binary64 x) → T (fits binary64 y) → extremeNumber before x y ≡ extremeNumber before y x
 either-way before o x y p q = go (before x y) (before y x) (isNan x) (isNan y) refl refl refl refl
   where
     go : (b c i j : Bool) → before x y ≡ b → before y x ≡ c → isNan x ≡ i → isNan y ≡ j → cond b x (cond c y (cond i y x)) ≡ cond c y (cond b x (cond j x y))
@@ -153,7 +153,7 @@ either-way before o x y p q = go (before x y) (before y x) (isNan x) (isNan y) r
 -- ---- What the functions ensure
 
 -- as the code has it
-by-two-tests : (before : Float → Float → Bool) → Linear before → (x y : Float) → cond (isNan x) y (cond (before y x) y x) ≡ extremeNumber before x y
+by-two-tests : (before : Float → Float → Bool) → Trichotomous before → (x y : Float) → cond (isNan x) y (cond (before y x) y x) ≡ extremeNumber before x y
 by-two-tests before o x y = go (before x y) (before y x) (isNan x) refl refl refl
   where
     go : (b c i : Bool) → before x y ≡ b → before y x ≡ c → isNan x ≡ i → cond i y (cond c y x) ≡ cond b x (cond c y (cond i y x))
@@ -164,7 +164,7 @@ by-two-tests before o x y = go (before x y) (before y x) (isNan x) refl refl ref
 
 pub ordered :
     {before : Float → Float → Bool} {r : Float} →
-    Linear before →
+    Trichotomous before →
     (x y : Float) →
     fits binary64 x ≡ true →
     fits binary64 y ≡ true →

@@ -138,7 +138,7 @@ int-value z h = rw (nearest-is z) (round-whole binary64 (sign z) (natAbs z) h)
 power-most : (k : ℕ) → k ≤ 11 → 2 ^ k ≤ 2 ^ 53
 power-most k h = let j : k ≤ 53 = omega arith in pow-mono j
 
-pub power-fits : (k : ℕ) → k ≤ 11 → 1 * 2 ^ k % 2 ^ 64 ≡ 2 ^ k
+power-fits : (k : ℕ) → k ≤ 11 → 1 * 2 ^ k % 2 ^ 64 ≡ 2 ^ k
 power-fits k h = let l = power-most k h in ap (λ (x : ℕ). x % 2 ^ 64) (one-mul (2 ^ k)) ∙ omega (arith, l)
 
 product-is : (n z : ℤ) (k : ℕ) → Scaled n z k → natAbs z < 2 ^ 53 → mul binary64 (ofInt binary64 z) (ofInt binary64 (pos (1 * 2 ^ k % 2 ^ 64))) ≡ ofInt binary64 n
