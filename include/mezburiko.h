@@ -1,5 +1,5 @@
 /*
- * Mezburiko: folds the constants of a gate graph, for C99 and C++.
+ * Mezburiko: folds the constants of a gate graph, and gives whole roots, for C99 and C++.
  *
  * The static library is target/staticlib/libmezburiko.a, which `make library` makes for x86-64 Linux. Of its host it
  * needs memcpy and memset, nothing else. docs/01-scope.md has the records of graphs and answers, and the rules.
@@ -62,6 +62,20 @@ enum mezburiko_number {
  */
 uint8_t mezburiko_fold(const uint8_t *input, size_t input_length, uint8_t *out, size_t out_length, size_t *place,
                        size_t *length, size_t *pops);
+
+/*
+ * The whole root of n and what is over: returns the root, and writes the remainder to *remainder.
+ *
+ * For every n, root * root + *remainder is n, and *remainder is at most 2 * root: the root is the largest number whose
+ * square is at most n. It is at most 4,294,967,295 and the remainder at most 8,589,934,590, so nothing here overflows.
+ *
+ * No n is refused, and nothing but *remainder is written. The caller owes that remainder is not null, is aligned and
+ * may be written, and that no other thread touches it during the call. What *remainder holds before plays no part.
+ *
+ * The call takes no stack to speak of and no heap, and needs nothing of the host. Calls on different memory may run at
+ * once in any threads. It has no loop, and always returns to its caller.
+ */
+uint64_t mezburiko_whole_root(uint64_t n, uint64_t *remainder);
 
 #ifdef __cplusplus
 }

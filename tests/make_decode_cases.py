@@ -76,8 +76,8 @@ while at < len(ALL):
 for kind in (0, 12, 16, 255):
     refuse(NODES + bytes([kind]) + bytes(40), 2, 9)
 # 4: what is not listed
-refuse(node(42), 4, 0)
-accept(node(41), 1)
+refuse(node(43), 4, 0)
+accept(node(42), 1)
 refuse(node(0, 2), 4, 0)
 accept(node(0, 1), 1)
 refuse(node() + wire(0, 10, 0, 2), 4, 3)
@@ -88,8 +88,8 @@ accept(node() + integer(0, 10), 1, 0, 1)
 refuse(node() + boolean(0, 0, 2), 4, 3)
 for kind in range(4):
     refuse(row(kind, 0, 0, 0), 4, 0)
-refuse(row(42, 0, 0, 0), 4, 0)
-for kind, inputs in ((4, 1), (5, 1), (6, 2), (15, 1), (23, 1), (28, 3), (36, 1), (41, 1)):
+refuse(row(43, 0, 0, 0), 4, 0)
+for kind, inputs in ((4, 1), (5, 1), (6, 2), (15, 1), (23, 1), (28, 3), (36, 1), (41, 1), (42, 1)):
     for place in range(3):
         top = [0, 0, 0]
         top[place] = 7
@@ -115,7 +115,7 @@ accept(NODES + WIRES + WIRES + row(18, 1, 1, 0) * 2, 3, 4, 0, 2)
 # 8, and the order of the questions
 accept(node() * 1024, 1024)
 refuse(node() * 1025, 8, 3072)
-refuse(node() * 1024 + node(42), 4, 3072)
+refuse(node() * 1024 + node(43), 4, 3072)
 accept(node() + wire(0, 0, 0, 0) * 4096, 1, 4096)
 refuse(node() + wire(0, 0, 0, 0) * 4097, 8, 3 + 7 * 4096)
 flags = b"".join(boolean(n, p, 0) for n in range(205) for p in range(10))

@@ -1,4 +1,8 @@
-/* Folds document 01's worked example, the empty graph and a graph that is refused, and prints what comes of each. */
+/*
+ * Folds document 01's worked example, the empty graph and a graph that is refused, takes two whole roots, and prints
+ * what comes of each.
+ */
+#include <inttypes.h>
 #include <stdio.h>
 
 #include "mezburiko.h"
@@ -74,10 +78,18 @@ static void fold(const char *name, const uint8_t *input, size_t input_length, ui
     }
 }
 
+static void whole_root(const char *name, uint64_t n) {
+    uint64_t remainder;
+    uint64_t root = mezburiko_whole_root(n, &remainder);
+    printf("%s: the root of %" PRIu64 " is %" PRIu64 ", remainder %" PRIu64 "\n", name, n, root, remainder);
+}
+
 int main(void) {
     fold("worked example", WORKED, sizeof WORKED, answer, sizeof answer);
     fold("worked example, a byte too little", WORKED, sizeof WORKED, answer, 47);
     fold("empty graph", NULL, 0, NULL, 0);
     fold("circle", CIRCLE, sizeof CIRCLE, answer, sizeof answer);
+    whole_root("3000 steps by 4001", UINT64_C(3000) * 3000 + UINT64_C(4001) * 4001);
+    whole_root("the largest number", UINT64_MAX);
     return 0;
 }

@@ -1,8 +1,10 @@
-"""Gate cases for runs beside the Rust: every class from 6 to 41 on special operands; and Min, Max and Clamp by IEEE 754-2019.
+"""Gate cases for runs beside the Rust: every class from 6 on special operands, and Sqrt on many more; and Min, Max and Clamp by
+IEEE 754-2019.
 
 A case is the 100 bytes that `oracle gates` reads (docs/ORACLE.md): the class, then three operands of a variant byte and
 32 bytes of value. An answer is 33 bytes, an operand's form.
 """
+import hashlib
 import itertools
 import math
 import pathlib
@@ -19,6 +21,7 @@ ORACLE, EXACT = TARGET / 'release' / 'oracle', TARGET / 'exact' / 'release' / 'o
 CASE, ANSWER = 100, 33
 # Where the Rust leaves the sign of a zero open.
 MIN, MAX, CLAMP = OPEN_ZEROS = 26, 27, 28
+SQRT = 42
 FLOATS = {2: 1, 4: 3, 5: 3, 6: 4, 7: 4}
 NAN = 0x7FF8000000000000
 
@@ -83,6 +86,73 @@ MORE = [operand(2, struct.pack('<Q', bits)) for bits in NEIGHBOURS]
 LIMITS = ZEROS + [floats(2, x) for x in (1.0, -1.0, *EXTREMES)] + MORE
 
 
+# ---- what Sqrt meets besides ----
+
+HIDDEN, SIGN = 1 << 52, 1 << 63
+
+
+def some_bits(length, *key):
+    """A number of so many bits, the first a 1 and the others as the key decides."""
+    scattered = hashlib.sha256(repr((length, *key)).encode()).digest()
+    return int.from_bytes(scattered[:8], 'big') >> 64 - length | 1 << length - 1
+
+
+def bits_of(x):
+    return struct.unpack('<Q', struct.pack('<d', x))[0]
+
+
+def of_each_exponent():
+    """Floats of each exponent, the infinities' too: the first, the last and some between, and one with a sign."""
+    for exponent in range(2048):
+        some = [some_bits(53, exponent, i) - HIDDEN for i in range(8)]
+        for significand in (0, 1, HIDDEN // 2, HIDDEN - 2, HIDDEN - 1, *some):
+            yield exponent * HIDDEN + significand
+        yield SIGN + exponent * HIDDEN + some[0]
+
+
+def of_each_length():
+    """Subnormals and their neighbours, of either sign at times."""
+    for length in range(1, 53):
+        for number in (1 << length - 1, *(some_bits(length, 'subnormal', i) for i in range(4))):
+            yield from (number - 1, number, number + 1, SIGN + number)
+
+
+def around_squares():
+    """The float next to a square, times powers of 4, and its neighbours: of small numbers, of numbers of 26 and 27 bits, whose
+    squares just fit a float or just do not, and of odd ones of 54 bits, which are half way between two floats."""
+    small = list(range(1, 257))
+    fitting = [some_bits(length, 'square', i) for length in (26, 27) for i in range(500)]
+    odd = [some_bits(54, 'tie', i) | 1 for i in range(1500)]
+    for number in small + fitting + odd:
+        for power in (-1000, -60, 0, 62, 800):
+            near = bits_of(math.ldexp(float(number * number), power))
+            yield from (near - 1, near, near + 1)
+
+
+def root_ints():
+    """Squares of each length and their neighbours, those of numbers that end in zeros too, and other multiples of 1,024; some
+    are negative."""
+    for length in range(1, 33):
+        for i in range(6):
+            number = some_bits(length, 'whole', i)
+            for root in (number, number >> length // 2 << length // 2):
+                square = root * root
+                yield from (n for n in (square - 1, square, square + 1, -square) if SMALLEST <= n <= LARGEST)
+    for length in range(54, 64):
+        for i in range(40):
+            number = some_bits(length, 'long', i)
+            yield from (number, number >> 10 << 10, -(number >> 10 << 10))
+
+
+def root_operands():
+    bits = {*of_each_exponent(), *of_each_length(), *around_squares()}
+    given = {operand(2, struct.pack('<Q', word)) for word in bits} | {whole_number(n) for n in root_ints()}
+    return sorted(given.difference(OPERANDS))
+
+
+ROOTS = root_operands()
+
+
 def input_count(gate):
     return len(tables.CLASSES[gate].folding.inputs)
 
@@ -99,11 +169,12 @@ def of(gate, chosen_from):
 
 
 def every():
-    """Every class on OPERANDS, and Min, Max and Clamp on LIMITS too; no case twice."""
+    """Every class on OPERANDS, Min, Max and Clamp on LIMITS too, and Sqrt on ROOTS; no case twice."""
     for gate in range(6, len(tables.CLASSES)):
         yield from of(gate, OPERANDS)
         if gate in OPEN_ZEROS:
             yield from (case for case in of(gate, LIMITS) if not set(MORE).isdisjoint(operands(case)))
+    yield from of(SQRT, ROOTS)
 
 
 def ask(oracle, cases):

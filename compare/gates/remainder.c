@@ -1,47 +1,18 @@
 /* Holds mezburiko_remainder to the C library's fmod on more than ten million pairs, and prints how long a call of each
  * takes, in markdown. */
-#define _POSIX_C_SOURCE 199309L
+#include "floats.h"
 #include <float.h>
 #include <math.h>
-#include <stdint.h>
 #include <stdio.h>
-#include <string.h>
-#include <time.h>
 
 double mezburiko_remainder(double x, double y);
 
 typedef double (*Remainder)(double, double);
 typedef void (*Pair)(double *x, double *y);
 
-enum { EXPONENTS = 2047, PAIRS = 1500000, TIMED = 1000, ROUNDS = 200 };
+enum { PAIRS = 1500000 };
 
-static uint64_t state = 1;
 static unsigned long held, nans, differ;
-
-/* xorshift64* */
-static uint64_t random_bits(void) {
-    state ^= state >> 12;
-    state ^= state << 25;
-    state ^= state >> 27;
-    return state * 0x2545F4914F6CDD1Du;
-}
-
-static double from_bits(uint64_t bits) {
-    double x;
-    memcpy(&x, &bits, sizeof x);
-    return x;
-}
-
-static uint64_t to_bits(double x) {
-    uint64_t bits;
-    memcpy(&bits, &x, sizeof bits);
-    return bits;
-}
-
-/* A float of either sign with this exponent field. */
-static double with_exponent(uint64_t field) {
-    return from_bits((random_bits() & 0x800FFFFFFFFFFFFFu) | field << 52);
-}
 
 static void any_bits(double *x, double *y) {
     *x = from_bits(random_bits());
@@ -99,10 +70,8 @@ static void hold(double x, double y) {
     double ours = mezburiko_remainder(x, y), theirs = fmod(x, y);
     held++;
     nans += theirs != theirs;
-    if (to_bits(ours) != to_bits(theirs) && !(ours != ours && theirs != theirs)) {
-        if (differ++ == 0) {
-            printf("%a by %a: remainder %a, fmod %a\n", x, y, ours, theirs);
-        }
+    if (!same(ours, theirs) && differ++ == 0) {
+        printf("%a by %a: remainder %a, fmod %a\n", x, y, ours, theirs);
     }
 }
 
@@ -135,18 +104,9 @@ static void hold_all(void) {
 
 /* The best time of a call, in ns. */
 static double best(Remainder remainder, const double *x, const double *y) {
-    struct timespec from, to;
     volatile double kept;
-    double least = 1e9;
-    for (int round = 0; round < ROUNDS; round++) {
-        clock_gettime(CLOCK_THREAD_CPUTIME_ID, &from);
-        for (int i = 0; i < TIMED; i++) {
-            kept = remainder(x[i], y[i]);
-        }
-        clock_gettime(CLOCK_THREAD_CPUTIME_ID, &to);
-        double taken = ((to.tv_sec - from.tv_sec) * 1e9 + (to.tv_nsec - from.tv_nsec)) / TIMED;
-        least = taken < least ? taken : least;
-    }
+    double least;
+    BEST(least, kept = remainder(x[i], y[i]));
     (void)kept;
     return least;
 }

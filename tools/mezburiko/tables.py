@@ -134,6 +134,7 @@ CLASSES = tuple(Class(number, *entry) for number, entry in enumerate([
     ('BITWISE_SHIFT_LEFT', 'ShiftLeft', BINARY),
     ('BITWISE_SHIFT_RIGHT', 'ShiftRight', BINARY),
     ('BITWISE_BIT_COUNT', 'BitCount', UNARY),
+    ('MATH_SQRT', 'Sqrt', UNARY),
 ]))
 OTHER, LITERAL, MICROCHIP_INPUT, MICROCHIP_OUTPUT, SELECT, BRANCH = range(6)
 LOGICAL_AND, LOGICAL_OR = 12, 13

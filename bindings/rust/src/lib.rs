@@ -18,7 +18,9 @@
 //! # Ok::<(), mezburiko::Refusal>(())
 //! ```
 //!
-//! A call takes about 130 KB of stack, allocates nothing and shares nothing with other calls, so it may run in any
+//! Beside the folder, [`whole_root`] gives the whole root of a number and what is over.
+//!
+//! A fold takes about 130 KB of stack. A call allocates nothing and shares nothing with other calls, so it may run in any
 //! number of threads at once. The package uses `core` alone but for [`fold_to_vec`], which the feature `alloc` has.
 //!
 //! The static library `libmezburiko.a` is linked from the folder that the environment variable `MEZBURIKO_LIB_DIR` names,
@@ -167,6 +169,7 @@ unsafe extern "C" {
         length: *mut usize,
         pops: *mut usize,
     ) -> u8;
+    fn mezburiko_whole_root(n: u64, remainder: *mut u64) -> u64;
 }
 
 /// Folds the graph that `input` says and writes the answer to the front of `out`.
@@ -205,4 +208,32 @@ pub fn fold_to_vec(input: &[u8]) -> Result<(Vec<u8>, usize), Refusal> {
     answer.truncate(folded.length);
     answer.shrink_to_fit();
     Ok((answer, folded.pops))
+}
+
+/// The whole root of a number, and what is over.
+#[derive(Clone, Copy, Debug, PartialEq, Eq, Hash)]
+pub struct WholeRoot {
+    /// The largest number whose square is at most the number.
+    pub root: u64,
+    /// The number less the square of the root.
+    pub remainder: u64,
+}
+
+/// The whole root of `n`, which is `n.isqrt()`, and what is over.
+///
+/// It is proved for every `n` that `root * root + remainder` is `n` and `remainder` is at most `2 * root`, and that no
+/// other two numbers are so.
+///
+/// ```
+/// use mezburiko::{WholeRoot, whole_root};
+///
+/// // 3,000 steps by 4,001
+/// let WholeRoot { root, remainder } = whole_root(3_000 * 3_000 + 4_001 * 4_001);
+/// assert_eq!((root, remainder), (5_000, 8_001));
+/// ```
+pub fn whole_root(n: u64) -> WholeRoot {
+    let mut remainder = 0;
+    // SAFETY: the pointer is valid for the write, and is used within the call only.
+    let root = unsafe { mezburiko_whole_root(n, &mut remainder) };
+    WholeRoot { root, remainder }
 }

@@ -36,7 +36,7 @@ fn refused_inputs() -> Vec<(Vec<u8>, Reason, usize)> {
         (vec![0; MAX_INPUT + 1], Reason::InputTooLong, 0),
         (vec![0; MAX_INPUT], Reason::UnknownKind, 0),
         (bytes("010000 0100"), Reason::CutOff, 3),
-        (bytes("010000 012A00"), Reason::Unlisted, 3),
+        (bytes("010000 012B00"), Reason::Unlisted, 3),
         (
             bytes("010000 02000000000002 010000"),
             Reason::OutOfOrder,

@@ -1,13 +1,14 @@
 //! Folders of document 01's graphs side by side: the proved one, a plain Rust one and the original.
 //!
-//! - Graphs: `tables` and `records` write them, `shapes` makes certain ones, `random` and `families`
-//!   make them at random from `rng` and `operands`, and `damage` spoils them.
+//! - Graphs: `tables` and `records` write them, `shapes` and `certain` make certain ones, `random` and
+//!   `families` make them at random from `rng` and `operands`, and `damage` spoils them.
 //! - Folders: `folders` and `original` run them, and `oracle` asks the original as programs.
 //! - Comparison: `alike` says which answers count as the same, `held` holds a folder to the oracles,
 //!   `shrink` makes an input that differs small, `tally` and `progress` tell.
 //! - Measuring: `timing` and `stack`, with `table` to print.
 
 pub mod alike;
+pub mod certain;
 pub mod damage;
 pub mod families;
 pub mod folders;

@@ -1,7 +1,7 @@
 //! Random graphs that fold much: gates with matching rows, chains of Selects and Branches, cycles,
 //! fan-in, nofold nodes, special values.
 use crate::operands::{PALETTES, value};
-use crate::records::{Graph, class, limit, port, variant};
+use crate::records::{Graph, LAST_CLASS, class, limit, port, variant};
 use crate::rng::Rng;
 use crate::tables::{INPUT_PORTS, ROW_LENGTHS};
 use std::collections::HashSet;
@@ -37,13 +37,20 @@ fn style(rng: &mut Rng, nodes: usize) -> Style {
     Style {
         palette: rng.pick(&PALETTES),
         shares,
-        gates: (0..classes).map(|_| rng.between(6, 41) as u8).collect(),
+        gates: (0..classes)
+            .map(|_| class_from(rng, class::COMPARE_EQUAL))
+            .collect(),
         forward: rng.pick(&[50, 80, 95, 100, 100]),
         fan_in: rng.pick(&[0, 5, 20]),
         property: rng.pick(&[40, 80, 95]),
         nofold: rng.pick(&[0, 0, 3, 15]),
         wires: (nodes * rng.pick(&[1, 2, 3, 5, 8]) / 2).min(limit::WIRES),
     }
+}
+
+/// A class at random, from this one to the last.
+pub fn class_from(rng: &mut Rng, first: u8) -> u8 {
+    rng.between(usize::from(first), usize::from(LAST_CLASS)) as u8
 }
 
 /// A graph of so many nodes.

@@ -1,6 +1,9 @@
 //! Graphs as document 01's records.
 
+use crate::tables::CLASS_NAMES;
 pub use crate::tables::{class, flag, kind, limit, port, variant};
+
+pub const LAST_CLASS: u8 = CLASS_NAMES.len() as u8 - 1;
 
 /// The parts of a graph; the property's value has the bytes that its variant asks for.
 #[derive(Clone, Default)]

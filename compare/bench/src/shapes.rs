@@ -1,9 +1,9 @@
-//! The graphs of the tables: large ones that fold much or nothing, and ones made to be slow; and certain small ones.
+//! The graphs of the tables: large ones that fold much or nothing, and ones made to be slow; and inputs at the limits.
 use crate::original;
 use crate::random;
-use crate::records::{Graph, class, limit, port, variant};
+use crate::records::{Graph, LAST_CLASS, class, limit, port, variant};
 use crate::rng::Rng;
-use crate::tables::{INPUT_PORTS, ROW_LENGTHS};
+use crate::tables::ROW_LENGTHS;
 
 pub const NODES: usize = limit::NODES;
 const LINK: [u8; 4] = [
@@ -298,7 +298,7 @@ pub fn tried_remainders() -> Graph {
 pub fn rows(mut graph: Graph, count: usize) -> Graph {
     let needed = std::mem::take(&mut graph.rows);
     let needed_before = |rows: &Vec<_>| rows.len() + needed.len() < count;
-    'filling: for class in (class::MATH_ADD + 1)..=class::BITWISE_BIT_COUNT {
+    'filling: for class in (class::MATH_ADD + 1)..=LAST_CLASS {
         for pair in 0..64u8 {
             if !needed_before(&graph.rows) {
                 break 'filling;
@@ -352,132 +352,6 @@ pub fn limits() -> Vec<Vec<u8>> {
     inputs.push(doubling_to(12).bytes());
     inputs.push(doubling_to(13).bytes());
     inputs
-}
-
-/// Min, Max and Clamp of every two or three zeros: Int 0, 0.0 and -0.0.
-pub fn zeros() -> Vec<Vec<u8>> {
-    let mut inputs = Vec::new();
-    for class in class::MATH_MIN..=class::MATH_CLAMP {
-        let ports = INPUT_PORTS[usize::from(class)];
-        for chosen in 0..3usize.pow(ports.len() as u32) {
-            inputs.push(gate_of_zeros(class, ports, chosen).bytes());
-        }
-    }
-    inputs
-}
-
-/// A gate whose operands are the zeros that the digits of `chosen` in base 3 say.
-fn gate_of_zeros(class: u8, ports: &[u8], chosen: usize) -> Graph {
-    let mut graph = Graph::default();
-    let zeros: [Operand; 3] = [int(0), float(0.0), float(-0.0)];
-    let place = |place: usize| zeros[chosen / 3usize.pow(place as u32) % 3].clone();
-    let operands: Vec<Operand> = (0..ports.len()).map(place).collect();
-    add_gate(&mut graph, class, &operands);
-    graph
-}
-
-/// A variant and the bytes of its value.
-type Operand = (u8, Vec<u8>);
-
-fn int(n: i64) -> Operand {
-    (variant::INT, n.to_le_bytes().to_vec())
-}
-
-fn float(x: f64) -> Operand {
-    (variant::FLOAT, x.to_le_bytes().to_vec())
-}
-
-/// A gate with operands from properties, and its row.
-fn add_gate(graph: &mut Graph, class: u8, operands: &[Operand]) {
-    let gate = graph.node(class);
-    let ports = INPUT_PORTS[usize::from(class)];
-    let mut row = [variant::UNWIRED; 3];
-    for ((&port, place), (variant, value)) in ports.iter().zip(&mut row).zip(operands) {
-        if *variant != variant::UNWIRED {
-            graph.property(*variant, gate, port, value.clone());
-        }
-        *place = *variant;
-    }
-    graph.row(class, row);
-}
-
-/// Ints up to 2^53, and beyond it such as are floats, lie half way between two, or beside one.
-const LONG_INTS: [i64; 18] = [
-    (1 << 53) - 1,
-    1 << 53,
-    (1 << 53) + 1,
-    (1 << 53) + 2,
-    (1 << 54) + 2,
-    1 << 60,
-    (1 << 60) + 1_024,
-    (1 << 62) + 512,
-    i64::MAX - 1_023,
-    i64::MAX - 511,
-    i64::MAX,
-    -(1 << 53),
-    -(1 << 53) - 1,
-    -(1 << 53) - 2,
-    -(1 << 60),
-    i64::MIN + 1_024,
-    i64::MIN + 1,
-    i64::MIN,
-];
-
-/// Each class with a rule for floats on each of `LONG_INTS`, which stands at each input beside each partner; and Branches
-/// that such an Int decides.
-pub fn long_ints() -> Vec<Vec<u8>> {
-    let compare = class::COMPARE_EQUAL..=class::COMPARE_GREATER_OR_EQUAL;
-    let classes = compare.chain(class::MATH_ADD..=class::CEIL);
-    let gates = classes.flat_map(|class| LONG_INTS.map(|n| gates_of_int(class, n)));
-    let graphs = gates.chain(LONG_INTS.map(branch_by_int));
-    graphs.map(|graph| graph.bytes()).collect()
-}
-
-/// Gates of a class with an Int at one input and the same partner at all others.
-fn gates_of_int(class: u8, n: i64) -> Graph {
-    let mut graph = Graph::default();
-    let inputs = INPUT_PORTS[usize::from(class)].len();
-    for partner in partners(class, n) {
-        for place in 0..inputs {
-            let mut operands = vec![partner.clone(); inputs];
-            operands[place] = int(n);
-            add_gate(&mut graph, class, &operands);
-        }
-    }
-    graph
-}
-
-/// A Branch that leads to a node if an Int is below 1.0, and else into itself.
-fn branch_by_int(n: i64) -> Graph {
-    let mut graph = Graph::default();
-    add_gate(&mut graph, class::COMPARE_LESS, &[int(n), float(1.0)]);
-    let classes = [class::BRANCH, class::OTHER, class::OTHER];
-    let [branch, first, last] = classes.map(|class| graph.node(class));
-    graph.wire((0, port::OUTPUT), (branch, port::B_COND));
-    graph.wire((first, port::OUTPUT), (branch, port::EXEC));
-    graph.wire((branch, port::EXEC_OUT_A), (last, port::EXEC));
-    graph.wire((branch, port::EXEC_OUT_B), (branch, port::EXEC));
-    graph.row(class::BRANCH, [variant::BOOL, 0, 0]);
-    graph
-}
-
-/// What a class takes beside an Int: nothing, Floats, a Bool and, in arithmetic, a Vector; one of them where it takes no
-/// second input.
-fn partners(class: u8, n: i64) -> Vec<Operand> {
-    let mut partners = vec![
-        (variant::UNWIRED, vec![]),
-        float(1.0),
-        float(n as f64),
-        (variant::BOOL, vec![1]),
-    ];
-    if (class::MATH_ADD..=class::MATH_MODULO).contains(&class) {
-        let parts = [1.0f64, -2.0, 3.5].map(f64::to_le_bytes);
-        partners.push((variant::VECTOR, parts.concat()));
-    }
-    if INPUT_PORTS[usize::from(class)].len() == 1 {
-        partners.truncate(1);
-    }
-    partners
 }
 
 /// A Quat that 1,023 chip nodes pass on: an answer of more than 65,536 bytes.

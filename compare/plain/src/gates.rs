@@ -17,12 +17,12 @@ pub fn eval(class: u8, a: Operand, b: Operand, c: Operand) -> Option<Value> {
         class::LOGICAL_AND..=class::LOGICAL_NOR => {
             Some(Value::Bool(logical(class, a.truthy(), b.truthy())))
         }
-        class::BITWISE_AND.. => bitwise(class, a, b).map(Value::Int),
+        class::BITWISE_AND..=class::BIT_COUNT => bitwise(class, a, b).map(Value::Int),
         _ => extended(class, a, b, c),
     }
 }
 
-/// Abs to Ceil.
+/// Abs to Ceil, and Sqrt.
 fn extended(class: u8, a: Operand, b: Operand, c: Operand) -> Option<Value> {
     match class {
         class::ABS | class::MIN..=class::CLAMP => limits(class, a, b, c),
@@ -30,7 +30,8 @@ fn extended(class: u8, a: Operand, b: Operand, c: Operand) -> Option<Value> {
         class::MODULO_FLOORED => finite(modulo_floored(a.as_float()?, b.as_float()?)),
         class::ROUND => Some(Value::Float(a.as_float()?.round())),
         class::FLOOR => Some(Value::Float(a.as_float()?.floor())),
-        _ => Some(Value::Float(a.as_float()?.ceil())),
+        class::CEIL => Some(Value::Float(a.as_float()?.ceil())),
+        _ => finite(a.as_float()?.sqrt()),
     }
 }
 

@@ -90,15 +90,16 @@ pub mod class {
     pub const SHIFT_LEFT: u8 = 39;
     pub const SHIFT_RIGHT: u8 = 40;
     pub const BIT_COUNT: u8 = 41;
+    pub const SQRT: u8 = 42;
 }
 
-pub const CLASSES: usize = 42;
+pub const CLASSES: usize = class::SQRT as usize + 1;
 pub const LAST_VARIANT: u8 = 7;
 
 /// How many variants a row of a class from 4 has: 1 for Select and Branch, else the gate's inputs.
 pub const fn row_length(class: u8) -> usize {
     match class {
-        4 | 5 | 15 | 23..=25 | 30..=32 | 36 | 41 => 1,
+        4 | 5 | 15 | 23..=25 | 30..=32 | 36 | 41 | 42 => 1,
         28 => 3,
         _ => 2,
     }

@@ -62,7 +62,7 @@ abbrev pub mathInOf : Operand → MathIn
 mathInOf Operand.Unwired = MathIn.I (pos 0)
 mathInOf (Operand.Known v) = mathInValue v
 
--- Abs to Ceil: "An Unwired operand gives None. Else floats without S, Bool and composites None". An Int that no f64 equals is None.
+-- Abs to Ceil, and MathSqrt: "An Unwired operand gives None. Else floats without S, Bool and composites None". An Int that no f64 equals is None.
 abbrev pub asFloatValue : Value → OptionFloat
 asFloatValue (Value.Int n) = intAsF64 n
 asFloatValue (Value.Float x) = OptionFloat.Some x

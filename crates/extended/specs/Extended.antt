@@ -1,9 +1,10 @@
--- Abs, Min, Max, Clamp, Sign, Negate, ModuloFloored, Round, Floor and Ceil (document 01, "Corners of semantics.rs").
+-- Abs, Min, Max, Clamp, Sign, Negate, ModuloFloored, Round, Floor, Ceil and MathSqrt (document 01, "Corners of semantics.rs").
 use mathlib.Core.Bool.{false, cond}
 use lib.IntN.{ℤ}
 use lib.Ieee.{Float, nan, inf, fin, binary64, ofBits, lt, sub, mul, div, neg}
 use Rattle.ieee.specs.Finite.{finiteOf}
 use Rattle.ieee.specs.Integral.{floorOf, ceilOf, roundOf}
+use Rattle.root.specs.Sqrt.{sqrtOf}
 use Rattle.whole.specs.Compare.{minOf, maxOf}
 use Rattle.whole.specs.Checked.{checkedAbsOf, checkedNegOf}
 use Rattle.whole.specs.declared.OptionInt.{OptionInt}
@@ -120,3 +121,7 @@ floorGate a = onFloat (asFloatOf a) (λ x. float (floorOf x))
 
 abbrev pub ceilGate : Operand → OptionValue
 ceilGate a = onFloat (asFloatOf a) (λ x. float (ceilOf x))
+
+-- "MathSqrt reads its operand in that float way too and gives a Float: the square root of IEEE 754, .."
+abbrev pub sqrtGate : Operand → OptionValue
+sqrtGate a = onFloat (asFloatOf a) (λ x. onFloat (sqrtOf x) float)

@@ -1,8 +1,8 @@
-// The extended math gates: Abs, Min, Max, Clamp, Sign, Negate, ModuloFloored, Round, Floor and Ceil.
+// The extended math gates: Abs, Min, Max, Clamp, Sign, Negate, ModuloFloored, Round, Floor, Ceil and MathSqrt.
 ghost use mathlib.Core.Path.{_≡_};
 ghost use mathlib.Core.Bool.{cond};
 ghost use lib.Ieee.{isNan};
-ghost use Rattle.extended.specs.Extended.{givenFinite, absFloat, absOf, minFloats, minOperands, maxFloats, maxOperands, clampInt, clampInts, clampFloat, clampFloats, clampOf, signFloat, signOf, negateOf, moduloFloored, moduloFlooredOf, roundGate, floorGate, ceilGate};
+ghost use Rattle.extended.specs.Extended.{givenFinite, absFloat, absOf, minFloats, minOperands, maxFloats, maxOperands, clampInt, clampInts, clampFloat, clampFloats, clampOf, signFloat, signOf, negateOf, moduloFloored, moduloFlooredOf, roundGate, floorGate, ceilGate, sqrtGate};
 ghost use Rattle.extended.specs.Extremes as Extremes;
 ghost use Rattle.extended.specs.Extremes.{follows, minimumNumber, maximumNumber, Extreme};
 use value::Operand;
@@ -266,4 +266,16 @@ pub fn ceil(a: Operand) -> OptionValue
         return OptionValue::None;
     };
     OptionValue::Some(Value::Float(ieee::ceil(x)))
+}
+
+pub fn sqrt(a: Operand) -> OptionValue
+    ensures { λ r. ⌜ r ≡ sqrtGate a ⌝ }
+{
+    let OptionFloat::Some(x) = conversions::as_float(a) else {
+        return OptionValue::None;
+    };
+    let OptionFloat::Some(y) = root::float::sqrt(x) else {
+        return OptionValue::None;
+    };
+    OptionValue::Some(Value::Float(y))
 }

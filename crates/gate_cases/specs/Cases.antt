@@ -4,6 +4,8 @@ use Prim.Native.Nat.{ℕ, zero, suc, _+_}
 use mathlib.Core.Bool.{cond, _&&_}
 use mathlib.Core.List.{List, [], _∷_}
 use lib.Dec.{ltb, leb}
+use lib.Ieee.{Float, nan}
+use Rattle.whole.specs.declared.OptionFloat.{OptionFloat}
 use Rattle.value.specs.declared.Operand.{Operand}
 use Rattle.value.specs.declared.OptionValue.{OptionValue}
 use Rattle.value.specs.Variants.{variantOf}
@@ -27,3 +29,8 @@ zeros (suc n) = 0 ∷ zeros n
 abbrev pub answerBytes : OptionValue → List ℕ
 answerBytes OptionValue.None = zeros 33
 answerBytes (OptionValue.Some v) = splice (splice (zeros 33) 0 (variantOf v ∷ [])) 1 (valueBytes v)
+
+-- the float, or NaN for None
+abbrev pub orNan : OptionFloat → Float
+orNan OptionFloat.None = nan
+orNan (OptionFloat.Some y) = y

@@ -1,14 +1,16 @@
-// Gate cases as bytes, for runs beside the Rust, and the remainder of floats, for one beside the C library's.
+// Gate cases as bytes, for runs beside the Rust; the remainder and the root of floats, for runs beside the C library's.
 ghost use mathlib.Core.Path.{_≡_};
 ghost use Prim.Native.Nat.{_+_, _≤_};
 ghost use lib.Ieee as Ieee;
 ghost use lib.Ieee.{binary64};
 ghost use lib.ListN.{length};
-ghost use Rattle.gate_cases.specs.Cases.{operandAt, givenOf, zeros, answerBytes};
+ghost use Rattle.gate_cases.specs.Cases.{operandAt, givenOf, zeros, answerBytes, orNan};
+ghost use Rattle.root.specs.Sqrt.{sqrtOf};
 use encoding::numbers;
 use encoding::values;
 use value::Operand;
 use value::OptionValue;
+use whole::OptionFloat;
 
 // The operand at an offset.
 fn operand_at(case: &[u8], at: usize) -> Operand
@@ -58,4 +60,15 @@ pub extern "C" fn mezburiko_remainder(x: f64, y: f64) -> f64
     ensures { λ r. ⌜ r ≡ Ieee.rem binary64 x y ⌝ }
 {
     ieee::remainder(x, y)
+}
+
+// The root of a float; a NaN where it has none.
+#[no_mangle]
+pub extern "C" fn mezburiko_sqrt(x: f64) -> f64
+    ensures { λ r. ⌜ r ≡ orNan (sqrtOf x) ⌝ }
+{
+    match root::float::sqrt(x) {
+        OptionFloat::None => 0.0 / 0.0,
+        OptionFloat::Some(y) => y,
+    }
 }

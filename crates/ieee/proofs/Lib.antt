@@ -2,4 +2,4 @@ pub mod Bits
 pub mod Integral
 mod Values
 mod Truncation
-mod Units
+pub mod Units

@@ -3,6 +3,7 @@ use mathlib.Core.Path.{_≡_, refl, sym, ap, _∙_, subst, subst⁻¹}
 use mathlib.Core.Bool.{Bool, true, false, cond, true≢false, false≢true}
 use Prim.Native.Nat.{ℕ, zero, suc, _+_, _-_, _*_, _/_, _%_, _^_, _≤_, _<_}
 use native.Mathlib.Nat.{le-trans, lt-of-lt-of-le, lt-of-le-of-lt, le-of-lt, lt-irrefl, zero-lt-suc, mul-one, zero-mul, mul-comm, mul-assoc, mul-right-comm, mul-left-comm, mul-le-mul-left, mul-add, mul-pos, mul-le-mul-right, mul-lt-mul-of-pos-right, add-mul-mod-self-right, div-add-mod', mod-lt, mod-eq-of-lt, add-zero, zero-add, le-add-right}
+use native.Mathlib.Decide.{ℕ-discrete}
 use native.Mathlib.Omega.{arith}
 use lib.Dec.{T, eqb, leb, eqb→eq, lit<, not-T}
 use lib.Arith.{digits-div, digits-mod, lt→nleb}
@@ -205,6 +206,19 @@ parts-high x F G n h z =
     subst⁻¹ (λ (y : Float). PartsOf y (leb (2 ^ 63) n) (2 ^ 52 + n % 2 ^ 52) f) e
     (high-parts (leb (2 ^ 63) n) f (n % 2 ^ 52) small (mod-lt n (pow-pos 52)) (sym (ap finiteOf e) ∙ G))
 
+-- every finite f64 has parts
+pub record HasParts (x : Float) : Type 0 where
+  pub negative : Bool
+  pub significand : ℕ
+  pub exponent : ℕ
+  pub parts : PartsOf x negative significand exponent
+
+pub has-parts : (x : Float) → T (fits binary64 x) → finiteOf x ≡ true → HasParts x
+has-parts x F G = let n = bitsOf x in elim (ℕ-discrete (n % 2 ^ 63 / 2 ^ 52) 0) [
+  | yes z ↦ record { negative = leb (2 ^ 63) n; significand = n % 2 ^ 52; exponent = 0; parts = parts-low x F n refl z }
+  | no z ↦ record { negative = leb (2 ^ 63) n; significand = 2 ^ 52 + n % 2 ^ 52; exponent = n % 2 ^ 63 / 2 ^ 52 - 1; parts = parts-high x F G n refl z }
+]
+
 -- what bits without a sign are read as
 read : (f t : ℕ) → f < 2 ^ 11 → t < 2 ^ 52 → ofBits binary64 (f * 2 ^ 52 + t) ≡ ofFields binary64 false f t
 unfolding ofBits
@@ -221,19 +235,19 @@ read-low e h =
     subst⁻¹ (λ (z : Float). HasValue z false (2 ^ e) (2 ^ 1074)) (ap (ofBits binary64) (sym (zero-add (2 ^ e))) ∙ read 0 (2 ^ e) (lit< tt) (pow-lt h))
     (subst (λ (z : ℕ). HasValue (ofFields binary64 false 0 (2 ^ e)) false z (2 ^ 1074)) (mul-one (2 ^ e)) (low-parts false (2 ^ e) (pow-lt h) .value))
 
-normal : (f : ℕ) → suc f < 2047 → ofFields binary64 false (suc f) 0 ≡ odd 53 false (2 ^ 52) f 1074
+normal : (f t : ℕ) → suc f < 2047 → ofFields binary64 false (suc f) t ≡ odd 53 false (2 ^ 52 + t) f 1074
 unfolding ofFields
-normal f h = cond-no (eqb (suc f) 2047) (inf false) (odd 53 false (2 ^ 52) f 1074) (not-T (eqb (suc f) 2047) (λ k. lt-irrefl 2047 (subst (λ (z : ℕ). z < 2047) (eqb→eq (suc f) 2047 k) h)))
+normal f t h = cond-no (eqb (suc f) 2047) (cond (eqb t 0) (inf false) nan) (odd 53 false (2 ^ 52 + t) f 1074) (not-T (eqb (suc f) 2047) (λ k. lt-irrefl 2047 (subst (λ (z : ℕ). z < 2047) (eqb→eq (suc f) 2047 k) h)))
 
-read-normal : (f : ℕ) → suc f < 2047 → HasValue (ofBits binary64 (suc f * 2 ^ 52)) false (2 ^ (52 + f)) (2 ^ 1074)
-read-normal f h =
-    subst⁻¹ (λ (z : Float). HasValue z false (2 ^ (52 + f)) (2 ^ 1074)) (ap (ofBits binary64) (sym (add-zero (suc f * 2 ^ 52))) ∙ read (suc f) 0 (omega arith) (lit< tt) ∙ normal f h)
-    (subst⁻¹ (λ (z : ℕ). HasValue (odd 53 false (2 ^ 52) f 1074) false z (2 ^ 1074)) (pow-add 2 52 f) (odd-sign 53 false (2 ^ 52) f 1074))
+pub read-normal : (f t : ℕ) → suc f < 2047 → t < 2 ^ 52 → HasValue (ofBits binary64 (suc f * 2 ^ 52 + t)) false ((2 ^ 52 + t) * 2 ^ f) (2 ^ 1074)
+read-normal f t h H = subst⁻¹ (λ (z : Float). HasValue z false ((2 ^ 52 + t) * 2 ^ f) (2 ^ 1074)) (read (suc f) t (omega arith) H ∙ normal f t h) (odd-sign 53 false (2 ^ 52 + t) f 1074)
 
 pub read-high : (e : ℕ) → 52 ≤ e → e < 2046 → HasValue (ofBits binary64 ((e - 51) * 2 ^ 52)) false (2 ^ e) (2 ^ 1074)
 read-high e l h =
     subst (λ (z : ℕ). HasValue (ofBits binary64 ((z - 51) * 2 ^ 52)) false (2 ^ z) (2 ^ 1074)) (rest e l)
-    (subst⁻¹ (λ (z : ℕ). HasValue (ofBits binary64 (z * 2 ^ 52)) false (2 ^ (52 + (e - 52))) (2 ^ 1074)) (next (e - 52)) (read-normal (e - 52) (omega arith)))
+    (subst⁻¹ (λ (z : ℕ). HasValue (ofBits binary64 (z * 2 ^ 52)) false (2 ^ (52 + (e - 52))) (2 ^ 1074)) (next (e - 52))
+    (subst (λ (z : ℕ). HasValue (ofBits binary64 z) false (2 ^ (52 + (e - 52))) (2 ^ 1074)) (add-zero (suc (e - 52) * 2 ^ 52))
+    (subst⁻¹ (λ (z : ℕ). HasValue (ofBits binary64 (suc (e - 52) * 2 ^ 52 + 0)) false z (2 ^ 1074)) (pow-add 2 52 (e - 52)) (read-normal (e - 52) 0 (omega arith) (lit< tt)))))
   where
     rest : (e : ℕ) → 52 ≤ e → 52 + (e - 52) ≡ e
     rest e h = omega arith

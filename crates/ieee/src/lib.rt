@@ -1,4 +1,4 @@
-// IEEE 754 binary64: the bits and the sign of a float, rounding to an integer, finiteness, and the remainder.
+// IEEE 754 binary64: the bits, the sign and the parts of a float, rounding to an integer, finiteness, and the remainder.
 
 ghost use mathlib.Core.Path.{_≡_};
 ghost use mathlib.Core.Bool.{true, false};
@@ -21,7 +21,7 @@ const NAN: u64 = 0x7ff8_0000_0000_0000;
 // The weight of the sign.
 const SIGN: u64 = 0x8000_0000_0000_0000;
 // The weight of the exponent's field, which is the leading digit's.
-const LEADING: u64 = 0x0010_0000_0000_0000;
+pub const LEADING: u64 = 0x0010_0000_0000_0000;
 // 2^51 of the smallest values is the largest power of two without a leading digit.
 const SUBNORMAL: u64 = 51;
 // How many binary digits a u64 has beside a significand's 53.
@@ -154,16 +154,16 @@ pub fn sanitize(x: f64) -> f64
     if is_finite(x) { x } else { 0.0 }
 }
 
-// ---- The remainder
+// ---- Floats as whole numbers, and the remainder
 
 // A finite float: significand * 2^exponent of the smallest values.
-struct Parts {
-    negative: bool,
-    significand: u64,
-    exponent: u64,
+pub struct Parts {
+    pub negative: bool,
+    pub significand: u64,
+    pub exponent: u64,
 }
 
-fn decompose(x: f64) -> Parts
+pub fn decompose(x: f64) -> Parts
     requires { ⌜ finiteOf x ≡ true ⌝ }
     ensures { λ r. ⌜ PartsOf x (r .negative) (r .significand) (r .exponent) ⌝ }
 {

@@ -7,6 +7,7 @@ use mathlib.Core.List.{List, [], _∷_}
 use lib.Arith.{lt-of-le-ne}
 use lib.Dec.{eqb, leb}
 use borrow.Author.Tests.{eqb-true, eqb-false, leb-true, le-leb, lt-leb, lt-ltb, ne-eqb}
+use Rattle.ir.specs.Classes.{classCount}
 use Rattle.value.specs.Variants.{variantOf, inVariant}
 use Rattle.value.specs.declared.Value.{Value}
 use Rattle.value.specs.declared.Operand.{Operand}
@@ -109,8 +110,8 @@ few-in Operand.Unwired = omega arith
 few-in (Operand.Known v) = few-variants v
 
 -- a row of variants has a cell
-pub has-cell : {class x y z : ℕ} → class < 42 → x ≤ 7 → y ≤ 7 → z ≤ 7 → hasCell (record { class = class; first = x; second = y; third = z }) ≡ true
-has-cell h p q r = rw (lt-ltb _ 42 h, le-leb _ 7 p, le-leb _ 7 q, le-leb _ 7 r) refl
+pub has-cell : {class x y z : ℕ} → class < classCount → x ≤ 7 → y ≤ 7 → z ≤ 7 → hasCell (record { class = class; first = x; second = y; third = z }) ≡ true
+has-cell h p q r = rw (lt-ltb _ classCount h, le-leb _ 7 p, le-leb _ 7 q, le-leb _ 7 r) refl
 
-pub has-one : {class x : ℕ} → class < 42 → x ≤ 7 → hasCell (record { class = class; first = x; second = 0; third = 0 }) ≡ true
+pub has-one : {class x : ℕ} → class < classCount → x ≤ 7 → hasCell (record { class = class; first = x; second = 0; third = 0 }) ≡ true
 has-one h p = has-cell {y = 0} {z = 0} h p (omega arith) (omega arith)

@@ -17,6 +17,7 @@ ghost use mathlib.Core.Bool.{true, false};
 ghost use mathlib.Core.Option.{Option};
 ghost use Prim.Native.Nat.{_+_, _<_, _≤_};
 ghost use lib.ListN.{length, getD};
+ghost use Rattle.ir.specs.Classes.{classCount};
 ghost use Rattle.ir.specs.Limits.{maxNodes, maxWires};
 ghost use Rattle.ir.specs.Ports.{valuePort};
 ghost use Rattle.encoding.specs.Values.{valueSize};
@@ -370,7 +371,7 @@ pub fn resolve_condition(
     port: u8,
     class: u8,
 ) -> OptionBool
-    requires { ⌜ Inputs (graphOf (now input)) (now input) (now table) (now wires) (now first) (now next) × Cells (graphOf (now input) .rows) (now rows) × (class < 42) × (node < size (graphOf (now input))) × (port ≤ valuePort) ⌝ }
+    requires { ⌜ Inputs (graphOf (now input)) (now input) (now table) (now wires) (now first) (now next) × Cells (graphOf (now input) .rows) (now rows) × (class < classCount) × (node < size (graphOf (now input))) × (port ≤ valuePort) ⌝ }
     ensures { λ r. ⌜ truth r ≡ resolveCondition (graphOf (now (input .entry))) class (portOf (now (input .entry)) (now (kinds .entry)) (now (words .entry)) node port) ⌝ }
 {
     let Lookup::Found(located) = locate(

@@ -1,17 +1,18 @@
 -- Document 01, "Classes: 0 any other, never folded; 1 Literal; ..".
 use Prim.Native.Nat.{ℕ}
-use mathlib.Core.Bool.{Bool, true, false, cond, _&&_, _||_}
+use mathlib.Core.Bool.{Bool, true, false, cond, _||_}
 use mathlib.Core.Option.{Option, none, some}
 use mathlib.Core.List.{List, [], _∷_}
 use lib.ListN.{length, getD}
-use lib.Dec.{ltb, leb, eqb}
+use lib.Dec.{ltb, eqb}
 use Rattle.ir.specs.declared.Folding.{Folding}
 use Rattle.ir.specs.declared.Folding.the-variants.{Never, Literal, Microchip, Select, Branch, Unary, Binary, Ternary}
 use Rattle.ir.specs.Ports.{inputA, inputB, thirdInput, bSelectB, bCond, rerInput}
 
--- how each class folds, by its number. Row by row: any other, Literal, the two Microchips, Select, Branch; Equal to GreaterOrEqual;
+-- how each class folds, by its number; "Logical and bitwise NOT, Abs, Sign, Negate, Round, Floor, Ceil, BitCount and MathSqrt have one input .. ;
+-- Clamp has three ..; the other gates from 6 have two". Row by row: any other, Literal, the two Microchips, Select, Branch; Equal to GreaterOrEqual;
 -- logical AND, OR, XOR, NOT, NAND, NOR; Add to Modulo; Abs, Sign, Negate, Min, Max, Clamp, ModuloFloored; Round, Floor, Ceil;
--- bitwise AND, OR, XOR, NOT, NAND, NOR, ShiftLeft, ShiftRight, BitCount
+-- bitwise AND, OR, XOR, NOT, NAND, NOR, ShiftLeft, ShiftRight, BitCount; MathSqrt
 abbrev pub classes : List Folding
 classes =
     Never ∷ Literal ∷ Microchip ∷ Microchip ∷ Select ∷ Branch
@@ -21,10 +22,15 @@ classes =
     ∷ Unary ∷ Unary ∷ Unary ∷ Binary ∷ Binary ∷ Ternary ∷ Binary
     ∷ Unary ∷ Unary ∷ Unary
     ∷ Binary ∷ Binary ∷ Binary ∷ Unary ∷ Binary ∷ Binary ∷ Binary ∷ Binary ∷ Unary
+    ∷ Unary
     ∷ []
 
+-- how many classes there are
+abbrev pub classCount : ℕ
+classCount = length classes
+
 abbrev pub isClass : ℕ → Bool
-isClass class = ltb class (length classes)
+isClass class = ltb class classCount
 
 abbrev pub foldingOf : ℕ → Folding
 foldingOf class = getD classes class Never
@@ -32,10 +38,6 @@ foldingOf class = getD classes class Never
 -- "2 MicrochipInput"
 abbrev pub microchipInput : ℕ
 microchipInput = 2
-
--- "Logical and bitwise NOT, Abs, Sign, Negate, Round, Floor, Ceil and BitCount have one input"
-abbrev pub isUnary : ℕ → Bool
-isUnary class = eqb class 15 || (leb 23 class && leb class 25) || (leb 30 class && leb class 32) || eqb class 36 || eqb class 41
 
 -- "Logical and bitwise NOT, .. have one input, port 2; Clamp has three, ports 2, 3 and 9; the other gates from 6 have two, ports 2 and 3"
 abbrev pub inputPorts : Folding → List ℕ
@@ -51,7 +53,7 @@ inputPorts Ternary = inputA ∷ inputB ∷ thirdInput ∷ []
 abbrev pub inputCount : Folding → ℕ
 inputCount f = length (inputPorts f)
 
--- "Rows are for 4 to 41"
+-- "Rows are for 4 to 42"
 abbrev pub hasRows : Folding → Bool
 hasRows Never = false
 hasRows Literal = false

@@ -2,10 +2,10 @@
 use crate::Folding;
 use crate::wide;
 ghost use mathlib.Core.Path.{_≡_};
-ghost use Rattle.ir.specs.Classes.{foldingOf, inputCount, hasRows, isClass, isUnary, isAnnihilator};
+ghost use Rattle.ir.specs.Classes.{foldingOf, inputCount, hasRows, isClass, isAnnihilator};
 ghost use Prim.Native.Nat.{_<_};
 
-pub const COUNT: usize = 42;
+pub const COUNT: usize = 43;
 
 pub const LITERAL: u8 = 1;
 
@@ -89,6 +89,8 @@ pub const BITWISE_SHIFT_RIGHT: u8 = 40;
 
 pub const BITWISE_BIT_COUNT: u8 = 41;
 
+pub const MATH_SQRT: u8 = 42;
+
 pub fn is_class(class: u8) -> bool
     ensures { λ r. ⌜ r ≡ isClass class ⌝ }
 {
@@ -110,17 +112,6 @@ fn folding_before_gates(class: u8) -> Folding
     }
 }
 
-// Whether a gate has one input.
-fn is_unary(class: u8) -> bool
-    ensures { λ r. ⌜ r ≡ isUnary class ⌝ }
-{
-    (class == LOGICAL_NOT)
-        | ((MATH_ABS <= class) & (class <= MATH_NEGATE))
-        | ((ROUND <= class) & (class <= CEIL))
-        | (class == BITWISE_NOT)
-        | (class == BITWISE_BIT_COUNT)
-}
-
 pub fn folding_of(class: u8) -> Folding
     ensures { λ r. ⌜ r ≡ foldingOf class ⌝ }
 {
@@ -131,7 +122,12 @@ pub fn folding_of(class: u8) -> Folding
         if class == MATH_CLAMP {
             return Folding::Ternary;
         }
-        if is_unary(class) {
+        let unary = (class == LOGICAL_NOT)
+            | ((MATH_ABS <= class) & (class <= MATH_NEGATE))
+            | ((ROUND <= class) & (class <= CEIL))
+            | (class == BITWISE_NOT)
+            | ((BITWISE_BIT_COUNT <= class) & (class <= MATH_SQRT));
+        if unary {
             return Folding::Unary;
         }
         return Folding::Binary;

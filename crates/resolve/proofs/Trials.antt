@@ -10,7 +10,7 @@ use lib.Dec.{eqb, ltb}
 use borrow.Author.Tests.{ltb-true, ltb-false, eqb-true, ne-eqb}
 use types.Run.{OneOf, miss}
 use denote.Enum.Declared.{tagOf}
-use Rattle.ir.specs.Classes.{classes, foldingOf, microchipInput, hasRows, inputPorts}
+use Rattle.ir.specs.Classes.{classCount, classes, foldingOf, microchipInput, hasRows, inputPorts}
 use Rattle.ir.specs.Flags.{nofold}
 use Rattle.ir.specs.Ports.{inputA, inputB, bSelectB, bCond, execOutA, execOutB, rerInput, valuePort}
 use Rattle.ir.specs.declared.Folding.{Folding}
@@ -58,12 +58,12 @@ gate-rows Folding.Binary h = refl
 gate-rows Folding.Ternary h = refl
 
 -- a class that has rows is a listed one
-pub listed : {f : Folding} {k : ℕ} → f ≡ foldingOf k → hasRows f ≡ true → k < 42
-listed {f} {k} e h = go (ltb k 42) refl
+pub listed : {f : Folding} {k : ℕ} → f ≡ foldingOf k → hasRows f ≡ true → k < classCount
+listed {f} {k} e h = go (ltb k classCount) refl
   where
-    go : (b : Bool) → ltb k 42 ≡ b → k < 42
-    go true l = ltb-true k 42 l
-    go false l = absurd (false≢true (sym (ap hasRows (e ∙ List·getD-eq-default classes Folding.Never {n = k} (ltb-false k 42 l))) ∙ h))
+    go : (b : Bool) → ltb k classCount ≡ b → k < classCount
+    go true l = ltb-true k classCount l
+    go false l = absurd (false≢true (sym (ap hasRows (e ∙ List·getD-eq-default classes Folding.Never {n = k} (ltb-false k classCount l))) ∙ h))
 
 carries : (o : Option Value) → valueIn (carried o) ≡ o
 carries none = refl

@@ -18,6 +18,7 @@ use value::Value;
 ghost use mathlib.Core.Path.{_≡_};
 ghost use mathlib.Core.List.{[], _∷_};
 ghost use Prim.Native.Nat.{ℕ, _≤_, _<_};
+ghost use Rattle.ir.specs.Classes.{classCount};
 ghost use Rattle.ir.specs.Ports.{valuePort};
 ghost use mathlib.Core.Option.{some};
 ghost use Rattle.graph.specs.Graph.{Graph, countsOf};
@@ -110,7 +111,7 @@ fn evaluate(
     second: bool,
     third: bool,
 ) -> OptionValue
-    requires { ⌜ Inputs (graphOf (now input)) (now input) (now table) (now wires) (now first) (now next) × (n < size (graphOf (now input))) × Cells (graphOf (now input) .rows) (now rows) × (class < 42) ⌝ }
+    requires { ⌜ Inputs (graphOf (now input)) (now input) (now table) (now wires) (now first) (now next) × (n < size (graphOf (now input))) × Cells (graphOf (now input) .rows) (now rows) × (class < classCount) ⌝ }
     ensures { λ r. ⌜ optional r ≡ evaluated (graphOf (now (input .entry))) class (gateInputs (portOf (now (input .entry)) (now (kinds .entry)) (now (words .entry)) n) second third) ⌝ }
 {
     let Lookup::Found(a) = inputs::locate(
@@ -314,7 +315,7 @@ pub fn try_resolve_gate(
     second: bool,
     third: bool,
 ) -> Trial
-    requires { ⌜ Reads (graphOf (now input)) counts (now input) (now table) (now wires) (now rows) (now first) (now next) × (n < size (graphOf (now input))) × (class < 42) ⌝ }
+    requires { ⌜ Reads (graphOf (now input)) counts (now input) (now table) (now wires) (now rows) (now first) (now next) × (n < size (graphOf (now input))) × (class < classCount) ⌝ }
     ensures { λ r. ⌜ Gives (graphOf (now (input .entry))) n (literalOffer (gateValue (graphOf (now (input .entry))) class (gateInputs (portOf (now (input .entry)) (now (kinds .entry)) (now (words .entry)) n) second third))) r ⌝ }
 {
     let OptionValue::Some(v) = evaluate(

@@ -21,6 +21,7 @@ ghost use mathlib.Core.Path.{_≡_};
 ghost use mathlib.Core.Bool.{cond};
 ghost use Prim.Native.Nat.{ℕ, _≤_, _<_};
 ghost use lib.ListN.{getD};
+ghost use Rattle.ir.specs.Classes.{classCount};
 ghost use Rattle.ir.specs.Limits.{maxNodes};
 ghost use Rattle.ir.specs.Ports.{inputA, inputB, bSelectB, bCond, execOutA, execOutB, valuePort};
 ghost use Rattle.graph.specs.Graph.{Graph};
@@ -118,7 +119,7 @@ fn try_resolve_select(
     n: usize,
     class: u8,
 ) -> Trial
-    requires { ⌜ Inputs (graphOf (now input)) (now input) (now table) (now wires) (now first) (now next) × Cells (graphOf (now input) .rows) (now rows) × (class < 42) × (n < size (graphOf (now input))) ⌝ }
+    requires { ⌜ Inputs (graphOf (now input)) (now input) (now table) (now wires) (now first) (now next) × Cells (graphOf (now input) .rows) (now rows) × (class < classCount) × (n < size (graphOf (now input))) ⌝ }
     ensures { λ r. ⌜ Gives (graphOf (now (input .entry))) n (selectOffer (graphOf (now (input .entry))) n (wiredPort (now (input .entry)) (now (kinds .entry)) (now (words .entry)) n) (resolveCondition (graphOf (now (input .entry))) class (portOf (now (input .entry)) (now (kinds .entry)) (now (words .entry)) n bSelectB))) r ⌝ }
 {
     let OptionBool::Some(truthy) = inputs::resolve_condition(
@@ -158,7 +159,7 @@ fn try_resolve_branch(
     n: usize,
     class: u8,
 ) -> Trial
-    requires { ⌜ Inputs (graphOf (now input)) (now input) (now table) (now wires) (now first) (now next) × Cells (graphOf (now input) .rows) (now rows) × (class < 42) × (n < size (graphOf (now input))) ⌝ }
+    requires { ⌜ Inputs (graphOf (now input)) (now input) (now table) (now wires) (now first) (now next) × Cells (graphOf (now input) .rows) (now rows) × (class < classCount) × (n < size (graphOf (now input))) ⌝ }
     ensures { λ r. ⌜ Gives (graphOf (now (input .entry))) n (branchOffer (graphOf (now (input .entry))) n (resolveCondition (graphOf (now (input .entry))) class (portOf (now (input .entry)) (now (kinds .entry)) (now (words .entry)) n bCond))) r ⌝ }
 {
     let OptionBool::Some(truthy) = inputs::resolve_condition(

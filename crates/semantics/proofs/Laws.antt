@@ -10,6 +10,7 @@ use lib.ListN.{getD}
 use lib.Ieee.{Float, lt, le, neg}
 use Rattle.ieee.specs.Finite.{finiteOf}
 use Rattle.ieee.specs.Integral.{floorOf, ceilOf, roundOf}
+use Rattle.root.specs.Sqrt.{sqrtOf}
 use Rattle.whole.specs.Checked.{checkedAbsOf, checkedNegOf}
 use Rattle.whole.specs.Bits.{shiftLeftOf, shiftRightOf}
 use Rattle.whole.specs.declared.OptionInt.{OptionInt}
@@ -218,7 +219,10 @@ all-sound = (
                                                                                   (λ a b c. onInt (asIntOf a) _ (λ m. onInt (asIntOf b) _ (λ n. int (shiftRightOf m n)))),
                                                                                   (
                                                                                     (λ a b c. onInt (asIntOf a) _ (λ n. refl)),
-                                                                                    tt,
+                                                                                    (
+                                                                                      (λ a b c. onFloat (asFloatOf a) _ (λ x. onFloat (sqrtOf x) _ (λ y. float y))),
+                                                                                      tt,
+                                                                                    ),
                                                                                   ),
                                                                                 ),
                                                                               ),

@@ -7,7 +7,7 @@ use Rattle.value.specs.declared.OptionValue.{OptionValue}
 use Rattle.comparison.specs.Comparison.{equalOf, notEqualOf, lessOf, lessOrEqualOf, greaterOf, greaterOrEqualOf, logicalAndOf, logicalOrOf, logicalXorOf, logicalNotOf, logicalNandOf, logicalNorOf}
 use Rattle.arithmetic.specs.Arithmetic.{mathOf}
 use Rattle.arithmetic.specs.declared.MathOp.{MathOp}
-use Rattle.extended.specs.Extended.{absOf, signOf, negateOf, minOperands, maxOperands, clampOf, moduloFlooredOf, roundGate, floorGate, ceilGate}
+use Rattle.extended.specs.Extended.{absOf, signOf, negateOf, minOperands, maxOperands, clampOf, moduloFlooredOf, roundGate, floorGate, ceilGate, sqrtGate}
 use Rattle.bitwise.specs.Bitwise.{bitwiseAndOf, bitwiseOrOf, bitwiseXorOf, bitwiseNotOf, bitwiseNandOf, bitwiseNorOf, bitwiseShiftLeftOf, bitwiseShiftRightOf, bitwiseBitCountOf}
 
 -- a rule on the operands at the input ports, in order; a gate of fewer inputs leaves the rest aside
@@ -34,6 +34,7 @@ rules =
     ∷ unary roundGate ∷ unary floorGate ∷ unary ceilGate
     ∷ binary bitwiseAndOf ∷ binary bitwiseOrOf ∷ binary bitwiseXorOf ∷ unary bitwiseNotOf ∷ binary bitwiseNandOf ∷ binary bitwiseNorOf
     ∷ binary bitwiseShiftLeftOf ∷ binary bitwiseShiftRightOf ∷ unary bitwiseBitCountOf
+    ∷ unary sqrtGate
     ∷ []
 
 abbrev pub evalOf : ℕ → Operand → Operand → Operand → OptionValue

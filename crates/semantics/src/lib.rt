@@ -137,6 +137,9 @@ pub fn eval_in(class: u8, a: Operand, b: Operand, c: Operand) -> OptionValue
     if class <= class::BITWISE_BIT_COUNT {
         return shifts(class, a, b, c);
     }
+    if class == class::MATH_SQRT {
+        return extended::sqrt(a);
+    }
     OptionValue::None
 }
 

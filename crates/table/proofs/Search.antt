@@ -9,10 +9,11 @@ use lib.Dec.{eqb, ltb, leb}
 use lib.ListN.{length, getD, set, take, replicate, length-set, length-replicate, getD-replicate}
 use lib.Seq.{take-suc, take-all, getD-set-same, getD-set-other}
 use borrow.Author.Tests.{ltb-true, leb-true, eqb-true, eq-eqb}
+use Rattle.ir.specs.Classes.{classCount}
 use Rattle.graph.specs.declared.Row.{Row}
 use Rattle.graph.proofs.Roles.{and-left, and-right}
 use Rattle.records.specs.Access.{rowsOf, noRow}
-use Rattle.table.specs.Table.{covers, isRow, hasCell, cellOf, Cells}
+use Rattle.table.specs.Table.{covers, isRow, hasCell, cellCount, cellOf, Cells}
 use Rattle.records.proofs.Runs.{rows-length}
 
 covers-snoc : (xs : List Row) (x row : Row) → covers (xs ++ (x ∷ [])) row ≡ (covers xs row || isRow x row)
@@ -24,20 +25,20 @@ covers-snoc (y ∷ xs) x row =
 -- ---- a row with a cell
 
 pub record Listed (r : Row) : Type 0 where
-  pub class : r .class < 42
+  pub class : r .class < classCount
   pub first : r .first ≤ 7
   pub second : r .second ≤ 7
   pub third : r .third ≤ 7
 
 pub listed : (r : Row) → hasCell r ≡ true → Listed r
 listed r e =
-    let abc = and-left ((ltb (r .class) 42 && leb (r .first) 7) && leb (r .second) 7) (leb (r .third) 7) e in
-    let ab = and-left (ltb (r .class) 42 && leb (r .first) 7) (leb (r .second) 7) abc in
+    let abc = and-left ((ltb (r .class) classCount && leb (r .first) 7) && leb (r .second) 7) (leb (r .third) 7) e in
+    let ab = and-left (ltb (r .class) classCount && leb (r .first) 7) (leb (r .second) 7) abc in
     record {
-      class = ltb-true (r .class) 42 (and-left (ltb (r .class) 42) (leb (r .first) 7) ab);
-      first = leb-true (r .first) 7 (and-right (ltb (r .class) 42) (leb (r .first) 7) ab);
-      second = leb-true (r .second) 7 (and-right (ltb (r .class) 42 && leb (r .first) 7) (leb (r .second) 7) abc);
-      third = leb-true (r .third) 7 (and-right ((ltb (r .class) 42 && leb (r .first) 7) && leb (r .second) 7) (leb (r .third) 7) e);
+      class = ltb-true (r .class) classCount (and-left (ltb (r .class) classCount) (leb (r .first) 7) ab);
+      first = leb-true (r .first) 7 (and-right (ltb (r .class) classCount) (leb (r .first) 7) ab);
+      second = leb-true (r .second) 7 (and-right (ltb (r .class) classCount && leb (r .first) 7) (leb (r .second) 7) abc);
+      third = leb-true (r .third) 7 (and-right ((ltb (r .class) classCount && leb (r .first) 7) && leb (r .second) 7) (leb (r .third) 7) e);
     }
 
 -- rows with one cell are the same
@@ -106,9 +107,9 @@ module _ (before : List Row) {x y : Row} (e : y ≡ x) {t : Bool} (h : t ≡ has
   pub passes-row : t ≡ false → Cells (before ++ (x ∷ [])) cells
   passes-row k = passes before x cells m (ap hasCell (sym e) ∙ sym h ∙ k)
 
-pub none-marked : Cells [] (replicate 21504 false)
+pub none-marked : Cells [] (replicate cellCount false)
 unfolding covers
-none-marked = record { long = length-replicate 21504 false; marked = λ r k. let l = listed r k in getD-replicate 21504 (cellOf r) false false (omega (arith, l .class, l .first, l .second, l .third)) }
+none-marked = record { long = length-replicate cellCount false; marked = λ r k. let l = listed r k in getD-replicate cellCount (cellOf r) false false (omega (arith, l .class, l .first, l .second, l .third)) }
 
 -- ---- the run of rows
 

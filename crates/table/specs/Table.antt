@@ -4,8 +4,9 @@ use mathlib.Core.Path.{_≡_}
 use mathlib.Core.Bool.{Bool, true, false, cond, _&&_, _||_}
 use mathlib.Core.Option.{Option, none, some}
 use mathlib.Core.List.{List, [], _∷_}
-use lib.Dec.{eqb, ltb, leb}
+use lib.Dec.{eqb, leb}
 use lib.ListN.{length, getD}
+use Rattle.ir.specs.Classes.{classCount, isClass}
 use Rattle.graph.specs.declared.Counts.{Counts}
 use Rattle.graph.specs.declared.Row.{Row}
 use Rattle.table.specs.declared.AnnihilatorKind.{AnnihilatorKind}
@@ -23,7 +24,11 @@ covers (r ∷ rs) row = isRow r row || covers rs row
 
 -- the rows that have a cell in the array: those of a listed class and listed variants
 abbrev pub hasCell : Row → Bool
-hasCell r = ((ltb (r .class) 42 && leb (r .first) 7) && leb (r .second) 7) && leb (r .third) 7
+hasCell r = ((isClass (r .class) && leb (r .first) 7) && leb (r .second) 7) && leb (r .third) 7
+
+-- how many cells it has
+abbrev pub cellCount : ℕ
+cellCount = classCount * 8 * 8 * 8
 
 abbrev pub cellOf : Row → ℕ
 cellOf r = ((r .class * 8 + r .first) * 8 + r .second) * 8 + r .third
@@ -37,7 +42,7 @@ isMarked cells r = getD cells (cellOf r) false
 
 -- the table has these rows, and no others
 pub record Cells (rows : List Row) (cells : RowTable) : Type 0 where
-  pub long : length cells ≡ 21504
+  pub long : length cells ≡ cellCount
   pub marked : (r : Row) → hasCell r ≡ true → isMarked cells r ≡ covers rows r
 
 -- the Bool of each case: "a false settles it", "a true settles it"

@@ -12,7 +12,7 @@ ghost use Rattle.ir.specs.Classes.{settles};
 ghost use Rattle.graph.specs.declared.Row.{Row};
 ghost use Prim.Native.Nat.{_<_};
 ghost use Rattle.records.specs.Access.{rowsOf, noRow};
-ghost use Rattle.table.specs.Table.{covers as coversOf, hasCell, cellOf, isMarked, Cells, settling, counted};
+ghost use Rattle.table.specs.Table.{covers as coversOf, hasCell, cellCount, cellOf, isMarked, Cells, settling, counted};
 
 // The Bool that settles a gate: a false an AND, a true an OR.
 pub enum AnnihilatorKind {
@@ -52,7 +52,7 @@ fn has_cell(class: u8, first: u8, second: u8, third: u8) -> bool
 // The cell of a row.
 fn cell_of(class: u8, first: u8, second: u8, third: u8) -> usize
     requires { ⌜ hasCell (record { class = class; first = first; second = second; third = third }) ≡ true ⌝ }
-    ensures { λ r. ⌜ (r ≡ cellOf (record { class = class; first = first; second = second; third = third })) × (r < 21504) ⌝ }
+    ensures { λ r. ⌜ (r ≡ cellOf (record { class = class; first = first; second = second; third = third })) × (r < cellCount) ⌝ }
 {
     ((wide(class) * variant::COUNT + wide(first)) * variant::COUNT + wide(second)) * variant::COUNT
         + wide(third)

@@ -7,6 +7,7 @@
 //! two bytes, and COUNT made at random from SEED. Where a folder differs, the smallest input found is printed with both
 //! answers, and the exit status is 1. docs/COMPARISON.md says what is held alike.
 use bench::alike::Zeros;
+use bench::certain;
 use bench::families;
 use bench::folders::{self, Fold, Outcome};
 use bench::held::{self, Difference, Paint, buffers};
@@ -33,12 +34,11 @@ struct Case {
 
 /// The certain inputs, then those at random.
 fn cases(count: u64, seed: u64) -> impl Iterator<Item = Case> {
-    let certain = |family| move |input| Case { family, input };
+    let of = |family| move |input| Case { family, input };
     let shapes = shapes::all().into_iter().map(|shape| shape.input);
-    let shapes = shapes.chain(shapes::limits());
-    let shapes = shapes.chain(shapes::zeros()).chain(shapes::long_ints());
-    let shapes = shapes.map(certain("certain"));
-    let short = families::short_inputs().map(certain("two bytes"));
+    let shapes = shapes.chain(shapes::limits()).chain(certain::all());
+    let shapes = shapes.map(of("certain"));
+    let short = families::short_inputs().map(of("two bytes"));
     let random = (0..count).map(move |index| {
         let (family, input) = families::input(seed, index);
         Case { family, input }

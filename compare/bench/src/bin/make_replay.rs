@@ -7,6 +7,7 @@
 //! ones. NaNs are written 7FF8000000000000, and zeros as the plain folder has them where the Rust leaves their sign
 //! open. Left out are long inputs and answers that are bags of wires. A case is what crates/replay/src/main.rt reads.
 use bench::alike::normal_nans;
+use bench::certain;
 use bench::families;
 use bench::held::{BUFFER, buffers, signed};
 use bench::oracle::{Oracles, Said};
@@ -75,12 +76,12 @@ fn random_cases(oracles: &mut Oracles, cases: &mut Vec<Vec<u8>>) {
     }
 }
 
-/// Inputs at and past the limits, of those that are no records one, zeros in Min, Max and Clamp, and Ints around and beyond
-/// 2^53, each into the program's buffer.
+/// Inputs at and past the limits, of those that are no records one, and the certain small graphs, each into the program's
+/// buffer.
 fn certain_cases(oracles: &mut Oracles, cases: &mut Vec<Vec<u8>>) {
     let limits = shapes::limits().into_iter();
     let limits = limits.filter(|input| input.len() != limit::INPUT);
-    for input in limits.chain(shapes::zeros()).chain(shapes::long_ints()) {
+    for input in limits.chain(certain::all()) {
         let said = oracles.ask_one(&input).expect("the oracles answer all");
         cases.push(case(&input, &said, BUFFER));
     }

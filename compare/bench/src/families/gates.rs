@@ -1,8 +1,9 @@
 //! Graphs of few gates with all kinds of operands, and graphs that annihilators settle.
 use crate::operands::{PALETTES, rich_value};
+use crate::random::class_from;
 use crate::records::{Graph, class, flag, port, variant};
 use crate::rng::Rng;
-use crate::tables::{CLASS_NAMES, INPUT_PORTS, ROW_LENGTHS};
+use crate::tables::{INPUT_PORTS, ROW_LENGTHS};
 
 /// Gates of any classes with operands from properties, Literals, chip nodes and other gates, and nodes that read them.
 pub fn gates(rng: &mut Rng) -> Graph {
@@ -23,7 +24,7 @@ pub fn gates(rng: &mut Rng) -> Graph {
 }
 
 fn add_gate(rng: &mut Rng, graph: &mut Graph, before: &[u16]) -> u16 {
-    let class = rng.between(6, CLASS_NAMES.len() - 1) as u8;
+    let class = class_from(rng, class::COMPARE_EQUAL);
     let palette = rng.pick(&PALETTES);
     let gate = graph.node(class);
     if rng.percent(3) {

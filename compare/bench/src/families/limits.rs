@@ -51,7 +51,7 @@ fn add_wire(rng: &mut Rng, graph: &mut Graph) {
 }
 
 fn add_row(rng: &mut Rng, graph: &mut Graph) {
-    let class = rng.between(4, 41) as u8;
+    let class = random::class_from(rng, class::SELECT);
     let mut variants = [0; 3];
     variants[..ROW_LENGTHS[usize::from(class)]].fill_with(|| rng.below(8) as u8);
     graph.row(class, variants);

@@ -1,8 +1,9 @@
 -- `semantics::eval_in` meets its contract.
 use Prim.Native.Nat.{ℕ, zero, suc, _≤_, _<_}
-use mathlib.Core.Path.{_≡_, refl, sym, ap}
+use mathlib.Core.Path.{_≡_, refl, sym, ap, _∙_}
 use native.Mathlib.Omega.{arith}
 use lib.ListN.{List·getD-eq-default}
+use Rattle.ir.specs.Classes.{classCount}
 use Rattle.value.specs.declared.Operand.{Operand}
 use Rattle.value.specs.declared.OptionValue.{OptionValue}
 use Rattle.semantics.specs.Eval.{Rule, rules, noGate, evalOf}
@@ -21,7 +22,7 @@ before (suc (suc (suc (suc zero)))) h x y z = refl
 before (suc (suc (suc (suc (suc zero))))) h x y z = refl
 before (suc (suc (suc (suc (suc (suc n)))))) h x y z = let f : ⊥ = omega arith in absurd f
 
-past : (n : ℕ) → 42 ≤ n → (x y z : Operand) → OptionValue.None ≡ evalOf n x y z
+past : (n : ℕ) → classCount ≤ n → (x y z : Operand) → OptionValue.None ≡ evalOf n x y z
 past n h x y z = sym (ap (λ (r : Rule). r x y z) (List·getD-eq-default rules noGate {n = n} h))
 
 returns : tie.Need-returns
@@ -69,8 +70,18 @@ shifts-requires c κs = search needs
 returns-8 : tie.Need-returns-8
 returns-8 c = (search needs, starred-hold)
 
+sqrt-requires : tie.Need-sqrt-requires
+sqrt-requires c κs = search needs
+
 returns-9 : tie.Need-returns-9
-returns-9 c = (past (c .before .before .before .before .args .class) (omega arith) (c .before .before .before .before .args .a) (c .before .before .before .before .args .b) (c .before .before .before .before .args .c), starred-hold)
+returns-9 c =
+    let s = c .before .before .before .before .before .before in
+    (c .sqrt .ensures ∙ ap (λ n. evalOf n (s .args .a) (s .args .b) (s .args .c)) (sym (c .before .if9 .taken)), starred-hold)
+
+returns-10 : tie.Need-returns-10
+returns-10 c =
+    let s = c .before .before .before .before .before in
+    (past (s .args .class) (omega arith) (s .args .a) (s .args .b) (s .args .c), starred-hold)
 
 pub eval-in-spec : {M : Type 1} → statement M
 eval-in-spec =
@@ -91,4 +102,6 @@ eval-in-spec =
     returns-7
     shifts-requires
     returns-8
-    returns-9)
+    sqrt-requires
+    returns-9
+    returns-10)

@@ -1,6 +1,7 @@
 //! The mode `gates`: gate cases in, the Rust's values out. main.rs has the format.
 use crate::input::read_or_end;
-use crate::{listing, values};
+use crate::listing::{self, LAST_CLASS};
+use crate::values;
 use std::io::{Read, Write};
 use wirescript_ir::semantics::{CertifiedTable, Value};
 
@@ -23,8 +24,8 @@ pub fn run(input: &mut impl Read, output: &mut impl Write) -> Result<(), String>
 
 fn answer(case: &[u8; CASE]) -> Result<[u8; OPERAND], String> {
     let class = case[0];
-    if !(6..=41).contains(&class) {
-        return Err(format!("class {class} is none of 6 to 41"));
+    if !(6..=LAST_CLASS).contains(&class) {
+        return Err(format!("class {class} is none of 6 to {LAST_CLASS}"));
     }
     let mut operands = Vec::new();
     for (i, bytes) in case[1..].chunks(OPERAND).enumerate() {

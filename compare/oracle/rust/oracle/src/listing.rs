@@ -38,8 +38,9 @@ pub const VARIANTS: [InVariant; 8] = [
 pub const LITERAL: u8 = 1;
 pub const LOGICAL_AND: u8 = 12;
 
-/// Classes 0 to 41; 0, any other, is the Rust's stand-in for a gate that it has no law for.
-pub const CLASSES: [&str; 42] = [
+pub const LAST_CLASS: u8 = 42;
+/// Classes from 0; 0, any other, is the Rust's stand-in for a gate that it has no law for.
+pub const CLASSES: [&str; LAST_CLASS as usize + 1] = [
     gc::UNSUPPORTED,
     gc::LITERAL,
     gc::MICROCHIP_INPUT,
@@ -82,12 +83,13 @@ pub const CLASSES: [&str; 42] = [
     gc::BITWISE_SHIFT_LEFT,
     gc::BITWISE_SHIFT_RIGHT,
     gc::BITWISE_BIT_COUNT,
+    gc::MATH_SQRT,
 ];
 
 /// How many inputs a gate from class 6 has.
 pub fn input_count(class: u8) -> usize {
     match class {
-        15 | 23..=25 | 30..=32 | 36 | 41 => 1,
+        15 | 23..=25 | 30..=32 | 36 | 41 | 42 => 1,
         28 => 3,
         _ => 2,
     }

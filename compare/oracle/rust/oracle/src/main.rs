@@ -21,7 +21,7 @@
 //! what each wire record becomes, one after the other, stand in its order too; but no single run of
 //! it has shown that order.
 //!
-//! `oracle gates` reads gate cases of 100 bytes: class 6 to 41, and three operands of 33 bytes, a
+//! `oracle gates` reads gate cases of 100 bytes: class 6 to 42, and three operands of 33 bytes, a
 //! variant 0 to 7 and the value as in a record, filled with 0 to 32 bytes. Operands past the inputs
 //! of the class are all 0. For each it writes 33 bytes, the value of `eval_in` with `Mode::Fold` as
 //! an operand, variant 0 for None.

@@ -1,6 +1,6 @@
 //! Questions 1 to 8 of document 01, written for the oracle alone: the input is cut into records
 //! one by one, and each record is asked its questions in their order.
-use crate::listing::row_length;
+use crate::listing::{LAST_CLASS, row_length};
 use std::collections::HashSet;
 
 /// The first question that is answered with no: its number, and the offset of the record.
@@ -97,12 +97,12 @@ fn body_length(kind: u8) -> Option<usize> {
 /// Question 4.
 fn every_byte_listed(kind: u8, body: &[u8]) -> bool {
     match (kind, body) {
-        (0x01, &[class, flags]) => class <= 41 && flags <= 1,
+        (0x01, &[class, flags]) => class <= LAST_CLASS && flags <= 1,
         (0x02, &[_, _, source_port, _, _, target_port]) => source_port <= 9 && target_port <= 9,
         (0x05, &[_, _, port, value]) => port <= 10 && value <= 1,
         (0x03..=0x09, &[_, _, port, ..]) => port <= 10,
         (0x0A, &[class, ref variants @ ..]) => {
-            (4..=41).contains(&class)
+            (4..=LAST_CLASS).contains(&class)
                 && variants.iter().all(|&v| v <= 7)
                 && variants[row_length(class)..].iter().all(|&v| v == 0)
         }

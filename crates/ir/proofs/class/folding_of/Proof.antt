@@ -5,7 +5,7 @@ use native.Mathlib.Omega.{arith}
 use lib.ListN.{List·getD-eq-default}
 use borrow.Author.Needs.{needs}
 use borrow.Author.Tests.{ltb-true, ltb-false}
-use Rattle.ir.specs.Classes.{classes}
+use Rattle.ir.specs.Classes.{classCount, classes}
 use Rattle.ir.specs.declared.Folding.{Folding}
 use Rattle.ir.proofs.Tables.{unary, binary}
 use Rattle.ir.proofs.class.folding_of.Statement.{statement}
@@ -23,23 +23,20 @@ is-class-requires c κs = search needs
 returns-2 : tie.Need-returns-2
 returns-2 c = search needs
 
-is-unary-requires : tie.Need-is-unary-requires
-is-unary-requires c κs = search needs
-
 returns-3 : tie.Need-returns-3
 returns-3 c =
-    let k : ℕ = c .before .before .before .before .before .before .args .class in
-    unary k (omega arith) (ltb-true k 42 (sym (c .before .before .before .before .is-class .ensures) ∙ c .before .before .before .if2 .taken)) (c .before .before .if3 .left) (sym (c .before .is-unary .ensures) ∙ c .if4 .taken)
+    let k : ℕ = c .before .before .before .before .before .args .class in
+    unary k (omega arith) (ltb-true k classCount (sym (c .before .before .before .is-class .ensures) ∙ c .before .before .if2 .taken)) (c .before .if3 .left) (c .if4 .taken)
 
 returns-4 : tie.Need-returns-4
 returns-4 c =
-    let k : ℕ = c .before .before .before .before .before .before .args .class in
-    binary k (omega arith) (ltb-true k 42 (sym (c .before .before .before .before .is-class .ensures) ∙ c .before .before .before .if2 .taken)) (c .before .before .if3 .left) (sym (c .before .is-unary .ensures) ∙ c .if4 .left)
+    let k : ℕ = c .before .before .before .before .before .args .class in
+    binary k (omega arith) (ltb-true k classCount (sym (c .before .before .before .is-class .ensures) ∙ c .before .before .if2 .taken)) (c .before .if3 .left) (c .if4 .left)
 
 returns-5 : tie.Need-returns-5
 returns-5 c =
     let k : ℕ = c .before .before .before .args .class in
-    sym (List·getD-eq-default classes Folding.Never {n = k} (ltb-false k 42 (sym (c .before .is-class .ensures) ∙ c .if2 .left)))
+    sym (List·getD-eq-default classes Folding.Never {n = k} (ltb-false k classCount (sym (c .before .is-class .ensures) ∙ c .if2 .left)))
 
 pub folding-of-spec : {M : Type 1} → statement M
 folding-of-spec =
@@ -49,7 +46,6 @@ folding-of-spec =
     returns
     is-class-requires
     returns-2
-    is-unary-requires
     returns-3
     returns-4
     returns-5)

@@ -2,6 +2,7 @@
 use mathlib.Core.Path.{ap}
 use lib.Dec.{ltb}
 use borrow.Author.Needs.{needs}
+use Rattle.ir.specs.Classes.{classCount}
 use Rattle.ir.proofs.class.is_class.Statement.{statement}
 use Rattle.ir.proofs.class.is_class.Tie as tie
 
@@ -9,7 +10,7 @@ wide-requires : tie.Need-wide-requires
 wide-requires c κs = search needs
 
 returns : tie.Need-returns
-returns c = ap (λ n. ltb n 42) (c .wide .ensures)
+returns c = ap (λ n. ltb n classCount) (c .wide .ensures)
 
 pub is-class-spec : {M : Type 1} → statement M
 is-class-spec = tie.close (tie.spec wide-requires returns)

@@ -1,0 +1,4 @@
+pub mod Floors
+pub mod Newton
+pub mod Shifts
+pub mod Squares
