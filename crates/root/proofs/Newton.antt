@@ -73,16 +73,16 @@ module _ (n a M q : ℕ) (scale-pos : 0 < M) (enough : M ≤ suc a) (low : a * a
 -- ---- near a root
 
 -- a positive number near a root: one more than what is below it
-pub positive : (n a : ℕ) → Near n a → 0 < a
-positive n zero h = let l = h .below in let g = h .above in omega arith
-positive n (suc a) h = omega arith
+pub above-zero : (n a : ℕ) → Near n a → 0 < a
+above-zero n zero h = let l = h .below in let g = h .above in omega arith
+above-zero n (suc a) h = omega arith
 
 under : {n a b : ℕ} → Near n a → a ≡ suc b → b * b < n
 under {n} {a} {b} h e = let f : a - 1 ≡ b = omega arith in subst (λ (x : ℕ). x * x < n) f (h .below)
 
 -- from the root of n / (2 * M) ^ 2 to that of n
 pub step : (n a M : ℕ) → 0 < M → M ≤ a → Near (n / (4 * M * M)) a → Near n (a * M + n / (4 * M) / a)
-step n zero M p m h = absurd (lt-irrefl 0 (positive (n / (4 * M * M)) 0 h))
+step n zero M p m h = absurd (lt-irrefl 0 (above-zero (n / (4 * M * M)) 0 h))
 step n (suc a) M p m h =
     let P : 0 < 4 * M * M = mul-pos (mul-pos (omega arith) p) p in
     let B : 0 < 4 * (suc a * M) = omega (arith, mul-pos {m = suc a} (omega arith) p) in

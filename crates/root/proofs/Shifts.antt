@@ -10,12 +10,12 @@ use Rattle.root.proofs.Newton.{at-least, lowered}
 
 -- z zeros and j + 1 digits make 64; a shift by z or one less
 module _ (m z j s : ℕ) (places : z + suc j ≡ 64) (low : 2 ^ j ≤ m) (high : m < 2 ^ suc j) (most : s ≤ z) (least : z ≤ s + 1) where
-  pub up : 2 ^ 62 ≤ m * 2 ^ s
-  up = le-trans (subst (λ (x : ℕ). 2 ^ 62 ≤ x) (pow-add 2 j s) (pow-mono {i = 62} {j = j + s} (omega arith))) (mul-le-mul-right (2 ^ s) low)
+  pub reaches : 2 ^ 62 ≤ m * 2 ^ s
+  reaches = le-trans (subst (λ (x : ℕ). 2 ^ 62 ≤ x) (pow-add 2 j s) (pow-mono {i = 62} {j = j + s} (omega arith))) (mul-le-mul-right (2 ^ s) low)
 
   -- with z zeros below the last digit
-  pub down : m * 2 ^ s + 2 ^ z ≤ 2 ^ 64
-  down =
+  pub stays-within : m * 2 ^ s + 2 ^ z ≤ 2 ^ 64
+  stays-within =
       let sum : suc j + z ≡ 64 = omega arith in
       let all : (m + 1) * 2 ^ z ≤ 2 ^ 64 = le-trans (mul-le-mul-right (2 ^ z) (omega arith)) (le-of-eq (sym (pow-add 2 (suc j) z) ∙ ap (λ (x : ℕ). 2 ^ x) sum)) in
       let part : m * 2 ^ s ≤ m * 2 ^ z = mul-le-mul-left m (pow-mono {i = s} {j = z} most) in
@@ -38,28 +38,28 @@ even-shift m e h l =
     let k = zeros-least m h l in
     record {
       within = omega (arith, t .1);
-      least = up m z (t .0) s (t .1) (t .2) (t .3) (omega arith) (omega arith);
-      most = let d = down m z (t .0) s (t .1) (t .2) (t .3) (omega arith) (omega arith) in let p : 2 ^ 11 ≤ 2 ^ z = pow-mono {i = 11} {j = z} k in omega arith;
+      least = reaches m z (t .0) s (t .1) (t .2) (t .3) (omega arith) (omega arith);
+      most = let d = stays-within m z (t .0) s (t .1) (t .2) (t .3) (omega arith) (omega arith) in let p : 2 ^ 11 ≤ 2 ^ z = pow-mono {i = 11} {j = z} k in omega arith;
       even = omega arith;
     }
 
 -- ---- a shift by an even number of places
 
-module _ (n : ℕ) (pos : 0 < n) (fits : n < 2 ^ 64) where
+module _ (n : ℕ) (pos : 0 < n) (short : n < 2 ^ 64) where
   abbrev half : ℕ
   half = leadingZeros 64 n / 2
 
   pub few : half < 32
-  few = let t = leading-top 64 n pos fits in omega (arith, t .1)
+  few = let t = leading-top 64 n pos short in omega (arith, t .1)
 
   exact : n * 2 ^ (2 * half) % 2 ^ 64 ≡ n * 2 ^ (2 * half)
   exact =
-      let t = leading-top 64 n pos fits in
-      let d = down n (leadingZeros 64 n) (t .0) (2 * half) (t .1) (t .2) (t .3) (omega arith) (omega arith) in
+      let t = leading-top 64 n pos short in
+      let d = stays-within n (leadingZeros 64 n) (t .0) (2 * half) (t .1) (t .2) (t .3) (omega arith) (omega arith) in
       mod-eq-of-lt (omega (arith, pow-pos (leadingZeros 64 n)))
 
   pub raised : 2 ^ 62 ≤ n * 2 ^ (2 * half) % 2 ^ 64
-  raised = let t = leading-top 64 n pos fits in subst (λ (x : ℕ). 2 ^ 62 ≤ x) (sym exact) (up n (leadingZeros 64 n) (t .0) (2 * half) (t .1) (t .2) (t .3) (omega arith) (omega arith))
+  raised = let t = leading-top 64 n pos short in subst (λ (x : ℕ). 2 ^ 62 ≤ x) (sym exact) (reaches n (leadingZeros 64 n) (t .0) (2 * half) (t .1) (t .2) (t .3) (omega arith) (omega arith))
 
   squared : n * 2 ^ (2 * half) ≡ n * (2 ^ half * 2 ^ half)
   squared = ap (λ (x : ℕ). n * x) (ap (λ (x : ℕ). 2 ^ x) (omega arith) ∙ pow-add 2 half half)

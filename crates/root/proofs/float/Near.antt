@@ -182,8 +182,8 @@ same-units x y z p q =
     (le-of-suc-le-suc (lt-of-not-le (λ (h : unitsOf y < unitsOf z). not-above x y z p q h)))
 
 -- a finite float is its sign and its units
-own-value : (x : Float) → FiniteF64 x → Units x (isSignMinus x) (unitsOf x)
-own-value x F =
+own-units : (x : Float) → FiniteF64 x → Units x (isSignMinus x) (unitsOf x)
+own-units x F =
     let p = has-parts x (F .f64) (F .finite) in
     let a = p .significand * 2 ^ p .exponent in
     subst (λ (s : Bool). Units x s (unitsOf x)) (sym (sign-of x (p .negative) a (p .parts .value)))
@@ -192,5 +192,5 @@ own-value x F =
 pub only-nearest : (x y z : Float) → NearestRoot x y → NearestRoot x z → z ≡ y
 only-nearest x y z p q =
     same-value z y (isSignMinus y) (unitsOf y) (2 ^ 1074) (pow-pos 1074) (q .result .f64) (p .result .f64)
-    (subst (λ (s : Bool). Units z s (unitsOf y)) (q .same-sign ∙ sym (p .same-sign)) (subst (λ (u : ℕ). Units z (isSignMinus z) u) (same-units x z y q p) (own-value z (q .result))))
-    (own-value y (p .result))
+    (subst (λ (s : Bool). Units z s (unitsOf y)) (q .same-sign ∙ sym (p .same-sign)) (subst (λ (u : ℕ). Units z (isSignMinus z) u) (same-units x z y q p) (own-units z (q .result))))
+    (own-units y (p .result))

@@ -50,13 +50,19 @@ division n s r h l k =
     }
 
 -- the root is R, or one less
-pub at-root : (N R square over : ℕ) → R * R + over ≡ N + square → square ≤ over → over ≤ 2 * R → R ≡ wholeRootOf N
-at-root N R square over e h l = floor-same (record { low = omega arith; high = omega arith }) (floor-root N)
+whole : (N R square over : ℕ) → R * R + over ≡ N + square → square ≤ over → over ≤ 2 * R → R ≡ wholeRootOf N
+whole N R square over e h l = floor-same (record { low = omega arith; high = omega arith }) (floor-root N)
 
-pub below-root : (N R square over : ℕ) → R * R + over ≡ N + square → over < square → square ≤ R → R - 1 ≡ wholeRootOf N
-below-root N R square over e h l = floor-same (less (R - 1) (omega arith)) (floor-root N)
+one-less : (N R square over : ℕ) → R * R + over ≡ N + square → over < square → square ≤ R → R - 1 ≡ wholeRootOf N
+one-less N R square over e h l = floor-same (less (R - 1) (omega arith)) (floor-root N)
   where
     less : (p : ℕ) → R ≡ p + 1 → Floor N p
     less p g =
         let f : (p + 1) * (p + 1) + over ≡ N + square = subst (λ (x : ℕ). x * x + over ≡ N + square) g e in
         record { low = omega arith; high = omega arith }
+
+pub at-root : {n s r q u : ℕ} → Division n s r q u → q * q ≤ u * 2 ^ 22 → s * 2 ^ 22 + q ≡ wholeRootOf (n * 4 ^ 22)
+at-root {n} {s} {r} {q} {u} d h = whole (n * 4 ^ 22) (s * 2 ^ 22 + q) (q * q) (u * 2 ^ 22) (d .sum) h (omega (arith, d))
+
+pub below-root : {n s r q u : ℕ} → Division n s r q u → u * 2 ^ 22 < q * q → s * 2 ^ 22 + q - 1 ≡ wholeRootOf (n * 4 ^ 22)
+below-root {n} {s} {r} {q} {u} d h = one-less (n * 4 ^ 22) (s * 2 ^ 22 + q) (q * q) (u * 2 ^ 22) (d .sum) h (omega (arith, d))

@@ -3,21 +3,21 @@ use mathlib.Core.Path.{_≡_}
 use Prim.Native.Nat.{suc, _-_, _^_, _<_, _≤_}
 use native.Mathlib.Omega.{arith}
 use borrow.Author.Needs.{needs}
-use Rattle.root.proofs.Newton.{positive, at-most, at-below, at-near}
+use Rattle.root.proofs.Newton.{above-zero, at-most, at-below, at-near}
 use Rattle.root.proofs.root_at.Statement.{statement}
 use Rattle.root.proofs.root_at.Tie as tie
 
-above-zero : (c : tie.Start) → 0 < c .args .near
-above-zero c = positive (c .args .n) (c .args .near) (c .pre)
+near-pos : (c : tie.Start) → 0 < c .args .near
+near-pos c = above-zero (c .args .n) (c .args .near) (c .pre)
 
 small : (c : tie.Start) → c .args .near ≤ 2 ^ 32
 small c = at-most (2 ^ 32) (omega (arith, c .fits .n .fits)) (c .pre)
 
 next : (c : tie.Start) → c .args .near ≡ suc (c .args .near - 1)
-next c = omega (arith, above-zero c)
+next c = omega (arith, near-pos c)
 
 sub-below : tie.Need-sub-below
-sub-below c = above-zero c
+sub-below c = near-pos c
 
 mul-over : tie.Need-mul-over
 mul-over c = record { fits = omega (arith, c .pre .below, c .fits .n .fits) }

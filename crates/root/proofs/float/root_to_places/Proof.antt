@@ -1,5 +1,5 @@
 -- `root::float::root_to_places` meets its contract.
-use Prim.Native.Nat.{_+_, _*_, _/_, _%_, _^_}
+use Prim.Native.Nat.{_*_, _/_, _%_, _^_}
 use native.Mathlib.Omega.{arith}
 use borrow.Author.Needs.{needs}
 use Rattle.root.proofs.float.Places.{Division, division, at-root, below-root}
@@ -43,22 +43,10 @@ sub-result : tie.Need-sub-result
 sub-result c = let d = divided (c .before .before .before .before) in omega (arith, d)
 
 returns : tie.Need-returns
-returns c =
-    let r = c .before .before .before .before in
-    let d = divided r in
-    let s = r .root-at .result .root in
-    let b = r .root-at .result .remainder * 2 ^ 22 in
-    let q = b / (2 * s) in
-    at-root (r .before .before .args .n * 4 ^ 22) (s * 2 ^ 22 + q) (q * q) (b % (2 * s) * 2 ^ 22) (d .sum) (c .if1 .taken) (omega (arith, d))
+returns c = at-root (divided (c .before .before .before .before)) (c .if1 .taken)
 
 returns-2 : tie.Need-returns-2
-returns-2 c =
-    let r = c .before .before .before .before in
-    let d = divided r in
-    let s = r .root-at .result .root in
-    let b = r .root-at .result .remainder * 2 ^ 22 in
-    let q = b / (2 * s) in
-    below-root (r .before .before .args .n * 4 ^ 22) (s * 2 ^ 22 + q) (q * q) (b % (2 * s) * 2 ^ 22) (d .sum) (c .if1 .left) (omega (arith, d))
+returns-2 c = below-root (divided (c .before .before .before .before)) (c .if1 .left)
 
 pub root-to-places-spec : {M : Type 1} → statement M
 root-to-places-spec =

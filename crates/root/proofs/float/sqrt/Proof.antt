@@ -42,15 +42,15 @@ returns c =
     let h : not (finiteOf x) ≡ true = sym (ap not (c .before .is-finite .ensures)) ∙ c .if1 .taken in
     without x (no-root x h) (λ y n. false≢true (sym (ap not (n .operand .finite)) ∙ h))
 
-finite : (c : tie.Else1) → FiniteF64 (c .before .before .args .x)
-finite c = record { f64 = passes _ (c .before .before .good .0 .1); finite = sym (c .before .is-finite .ensures) ∙ negated (c .before .is-finite .result) (c .if1 .left) }
+operand-finite : (c : tie.Else1) → FiniteF64 (c .before .before .args .x)
+operand-finite c = record { f64 = passes _ (c .before .before .good .0 .1); finite = sym (c .before .is-finite .ensures) ∙ negated (c .before .is-finite .result) (c .if1 .left) }
   where
     negated : (b : Bool) → not b ≡ false → b ≡ true
     negated true h = refl
     negated false h = absurd (true≢false h)
 
 decompose-requires : tie.Need-decompose-requires
-decompose-requires c κs = finite c .finite
+decompose-requires c κs = operand-finite c .finite
 
 returns-2 : tie.Need-returns-2
 returns-2 c =
@@ -59,7 +59,7 @@ returns-2 c =
     let a = d .decompose .result .significand * 2 ^ d .decompose .result .exponent in
     let z : a ≡ 0 = ap (λ (m : ℕ). m * 2 ^ d .decompose .result .exponent) (c .if2 .taken) ∙ zero-mul (2 ^ d .decompose .result .exponent) in
     let v = d .decompose .ensures .value in
-    with-root x x (zero-root x (d .decompose .result .negative) a v z) (zero-nearest x (finite (d .before)) (units-of x (d .decompose .result .negative) a v ∙ z))
+    with-root x x (zero-root x (d .decompose .result .negative) a v z) (zero-nearest x (operand-finite (d .before)) (units-of x (d .decompose .result .negative) a v ∙ z))
 
 -- the significand is not 0
 significand-pos : (c : tie.Else2) → 0 < c .before .before .decompose .result .significand
@@ -89,7 +89,7 @@ returns-4 c =
     let parts = subst (λ (s : Bool). PartsOf x s (p .significand) (p .exponent)) (c .before .before .if3 .left) (d .decompose .ensures) in
     let m = significand-pos (c .before .before .before) in
     subst (λ (v : Float). Ensured x (OptionFloat.Some v)) (sym (c .from-bits .ensures .0 ∙ c .before .root-bits .ensures))
-    (with-root x (roundedRoot (p .significand * 2 ^ p .exponent)) (positive-root x (p .significand * 2 ^ p .exponent) (parts .value) (mul-pos m (pow-pos (p .exponent)))) (positive-nearest x (p .significand) (p .exponent) (finite (d .before)) parts m))
+    (with-root x (roundedRoot (p .significand * 2 ^ p .exponent)) (positive-root x (p .significand * 2 ^ p .exponent) (parts .value) (mul-pos m (pow-pos (p .exponent)))) (positive-nearest x (p .significand) (p .exponent) (operand-finite (d .before)) parts m))
 
 pub sqrt-spec : {M : Type 1} → statement M
 sqrt-spec =
