@@ -57,7 +57,7 @@ enum mezburiko_number {
  * - none of the five overlaps another, and no other thread writes input or touches the rest during the call.
  * What *place, *length and *pops hold before the call plays no part.
  *
- * The call takes about 130 KB of stack at its peak (docs/PERFORMANCE.md) and no heap. The library has no writable data,
+ * The call takes about 116 KB of stack at its peak (docs/PERFORMANCE.md) and no heap. The library has no writable data,
  * so calls on different memory may run at once in any threads. It always returns, and to its caller.
  */
 uint8_t mezburiko_fold(const uint8_t *input, size_t input_length, uint8_t *out, size_t out_length, size_t *place,

@@ -20,7 +20,7 @@
 //!
 //! Beside the folder, [`whole_root`] gives the whole root of a number and what is over.
 //!
-//! A fold takes about 130 KB of stack. A call allocates nothing and shares nothing with other calls, so it may run in any
+//! A fold takes about 116 KB of stack. A call allocates nothing and shares nothing with other calls, so it may run in any
 //! number of threads at once. The package uses `core` alone but for [`fold_to_vec`], which the feature `alloc` has.
 //!
 //! The static library `libmezburiko.a` is linked from the folder that the environment variable `MEZBURIKO_LIB_DIR` names,

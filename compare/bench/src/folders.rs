@@ -60,9 +60,48 @@ pub const PROVED_WORKLIST: Option<Worklist> = Some(proved_stages::worklist);
 #[cfg(not(feature = "stages"))]
 pub const PROVED_WORKLIST: Option<Worklist> = None;
 
+/// The C function `mezburiko_fold` of some build.
+pub type Entry = unsafe extern "C" fn(
+    *const u8,
+    usize,
+    *mut u8,
+    usize,
+    *mut usize,
+    *mut usize,
+    *mut usize,
+) -> u8;
+
+/// Calls an entry.
+///
+/// # Safety
+/// It keeps to what the header says of `mezburiko_fold`.
+#[inline(always)]
+pub unsafe fn call(entry: Entry, input: &[u8], out: &mut [u8]) -> Outcome {
+    // No outcome has this number, so one that is not written shows.
+    let (mut place, mut length, mut pops) = (usize::MAX, usize::MAX, usize::MAX);
+    // SAFETY: each pointer is to so many bytes, or to one number, and is used in the call only.
+    let number = unsafe {
+        entry(
+            input.as_ptr(),
+            input.len(),
+            out.as_mut_ptr(),
+            out.len(),
+            &mut place,
+            &mut length,
+            &mut pops,
+        )
+    };
+    Outcome {
+        number,
+        place,
+        length,
+        pops,
+    }
+}
+
 #[cfg(feature = "folding")]
 mod proved {
-    use super::Outcome;
+    use super::{Outcome, call};
 
     unsafe extern "C" {
         fn mezburiko_fold(
@@ -78,26 +117,8 @@ mod proved {
 
     #[inline(never)]
     pub fn fold(input: &[u8], out: &mut [u8]) -> Outcome {
-        // No outcome has this number, so one that is not written shows.
-        let (mut place, mut length, mut pops) = (usize::MAX, usize::MAX, usize::MAX);
-        // SAFETY: each pointer is to so many bytes, or to one number, and is used in the call only.
-        let number = unsafe {
-            mezburiko_fold(
-                input.as_ptr(),
-                input.len(),
-                out.as_mut_ptr(),
-                out.len(),
-                &mut place,
-                &mut length,
-                &mut pops,
-            )
-        };
-        Outcome {
-            number,
-            place,
-            length,
-            pops,
-        }
+        // SAFETY: it is the entry of the library.
+        unsafe { call(mezburiko_fold, input, out) }
     }
 }
 
@@ -110,7 +131,7 @@ mod proved_stages {
     #[inline(never)]
     pub fn worklist(input: &[u8]) -> Result<usize, u8> {
         let mut pops = 0;
-        // SAFETY: as in `proved::fold`.
+        // SAFETY: as in `call`.
         match unsafe { mezburiko_worklist(input.as_ptr(), input.len(), &mut pops) } {
             0 => Ok(pops),
             number => Err(number),

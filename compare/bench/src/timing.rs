@@ -98,6 +98,36 @@ pub fn fold_all(shapes: &[Shape], effort: Effort) -> Vec<Times> {
     times
 }
 
+/// The best times of each of some builds on each graph, all builds in turn, once it is seen that they answer alike.
+pub fn builds_all<F>(shapes: &[Shape], builds: &[F], effort: Effort) -> Vec<Vec<Duration>>
+where
+    F: Fn(&[u8], &mut [u8]) -> Outcome,
+{
+    let mut out = vec![0; BUFFER];
+    for shape in shapes {
+        let (first, rest) = builds.split_first().expect("a build");
+        let answer = run(first, &shape.input);
+        for build in rest {
+            assert_eq!(run(build, &shape.input), answer, "{}", shape.name);
+        }
+    }
+    let mut times = vec![vec![NEVER; builds.len()]; shapes.len()];
+    for _ in 0..effort.rounds {
+        for (shape, times) in shapes.iter().zip(&mut times) {
+            repeat(effort.time, |call| {
+                for k in 0..builds.len() {
+                    let k = (call + k) % builds.len();
+                    out.fill(0);
+                    shorten(&mut times[k], || {
+                        builds[k](black_box(&shape.input), black_box(&mut out))
+                    });
+                }
+            });
+        }
+    }
+    times
+}
+
 #[inline(always)]
 fn fold_once(fold: Option<Fold>, input: &[u8], out: &mut [u8], best: &mut Duration) {
     if let Some(fold) = fold {
@@ -131,7 +161,7 @@ pub fn check(shape: &Shape) -> (Outcome, Vec<u8>) {
     (outcome, answer)
 }
 
-fn run(fold: Fold, input: &[u8]) -> (Outcome, Vec<u8>) {
+fn run(fold: impl Fn(&[u8], &mut [u8]) -> Outcome, input: &[u8]) -> (Outcome, Vec<u8>) {
     let mut out = vec![0; BUFFER];
     let outcome = fold(input, &mut out);
     out.truncate(outcome.length);

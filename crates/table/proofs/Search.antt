@@ -1,20 +1,26 @@
--- The cells of rows.
-use Prim.Native.Nat.{ℕ, _+_, _/_, _≤_, _<_}
+-- The numbers of rows, and the set of them.
+use Prim.Native.Nat.{ℕ, suc, _+_, _/_, _≤_, _<_, compare·suc-suc}
 use native.Mathlib.Numerals.{add-one}
 use native.Mathlib.Omega.{arith}
-use mathlib.Core.Path.{_≡_, refl, sym, ap, subst, _∙_}
-use mathlib.Core.Bool.{Bool, true, false, _&&_, _||_, or-assoc, or-false, or-true, false≢true}
+use mathlib.Core.Logic.{_↔_}
+use mathlib.Core.Path.{_≡_, refl, sym, ap, ap₂, subst, _∙_}
+use mathlib.Core.Bool.{Bool, true, false, cond, _&&_, _||_, or-assoc, or-false, false≢true}
 use mathlib.Core.List.{List, [], _∷_, _++_}
-use lib.Dec.{eqb, ltb, leb}
-use lib.ListN.{length, getD, set, take, replicate, length-set, length-replicate, getD-replicate}
-use lib.Seq.{take-suc, take-all, getD-set-same, getD-set-other}
-use borrow.Author.Tests.{ltb-true, leb-true, eqb-true, eq-eqb}
-use Rattle.ir.specs.Classes.{classCount}
+use lib.Dec.{eqb, ltb, leb, isLe}
+use lib.ListN.{length, getD, take, replicate, length-replicate, List·getD-eq-default}
+use lib.Seq.{take-suc, take-all}
+use borrow.Author.Tests.{ltb-true, ltb-false, leb-true, le-leb, eqb-true, eq-eqb, ne-eqb}
+use Rattle.ir.specs.Classes.{classes, classCount, foldingOf, inputCount, hasRows}
+use Rattle.ir.specs.declared.Folding.{Folding}
+use Rattle.ir.specs.declared.Role.the-variants.{Row as RowRole}
+use Rattle.graph.specs.Graph.{rowAt}
+use Rattle.graph.specs.Questions.{isVariant, isListed}
 use Rattle.graph.specs.declared.Row.{Row}
 use Rattle.graph.proofs.Roles.{and-left, and-right}
 use Rattle.records.specs.Access.{rowsOf, noRow}
-use Rattle.table.specs.Table.{covers, isRow, hasCell, cellCount, cellOf, Cells}
+use Rattle.table.specs.Table.{covers, isRow, lastVariant, hasCell, rowNumber, VariantsFit, SameNumber, numberCount, wordCount, Marks, Cells}
 use Rattle.records.proofs.Runs.{rows-length}
+use Rattle.table.proofs.Bits.{none-set}
 
 covers-snoc : (xs : List Row) (x row : Row) → covers (xs ++ (x ∷ [])) row ≡ (covers xs row || isRow x row)
 unfolding covers
@@ -22,99 +28,139 @@ covers-snoc [] x row = or-false (isRow x row)
 covers-snoc (y ∷ xs) x row =
     ap (λ (t : Bool). isRow y row || t) (covers-snoc xs x row) ∙ sym (or-assoc (isRow y row) (covers xs row) (isRow x row))
 
--- ---- a row with a cell
+-- ---- rows that are the same
 
-pub record Listed (r : Row) : Type 0 where
-  pub class : r .class < classCount
-  pub first : r .first ≤ 7
-  pub second : r .second ≤ 7
-  pub third : r .third ≤ 7
+same : (q r : Row) → q .class ≡ r .class → q .first ≡ r .first → q .second ≡ r .second → q .third ≡ r .third → q ≡ r
+same q r a b c d = λ i. record { class = a i; first = b i; second = c i; third = d i }
 
-pub listed : (r : Row) → hasCell r ≡ true → Listed r
-listed r e =
-    let abc = and-left ((ltb (r .class) classCount && leb (r .first) 7) && leb (r .second) 7) (leb (r .third) 7) e in
-    let ab = and-left (ltb (r .class) classCount && leb (r .first) 7) (leb (r .second) 7) abc in
-    record {
-      class = ltb-true (r .class) classCount (and-left (ltb (r .class) classCount) (leb (r .first) 7) ab);
-      first = leb-true (r .first) 7 (and-right (ltb (r .class) classCount) (leb (r .first) 7) ab);
-      second = leb-true (r .second) 7 (and-right (ltb (r .class) classCount && leb (r .first) 7) (leb (r .second) 7) abc);
-      third = leb-true (r .third) 7 (and-right ((ltb (r .class) classCount && leb (r .first) 7) && leb (r .second) 7) (leb (r .third) 7) e);
-    }
-
--- rows with one cell are the same
-same-row : (q r : Row) → Listed q → Listed r → cellOf q ≡ cellOf r → isRow q r ≡ true
-same-row q r h k e =
-    let class : q .class ≡ r .class = omega (arith, h .first, h .second, h .third, k .first, k .second, k .third) in
-    let first : q .first ≡ r .first = omega (arith, h .second, h .third, k .second, k .third) in
-    let second : q .second ≡ r .second = omega (arith, h .third, k .third) in
-    let third : q .third ≡ r .third = omega arith in
-    rw (class, first, second, third, eq-eqb (r .class) (r .class) refl, eq-eqb (r .first) (r .first) refl, eq-eqb (r .second) (r .second) refl, eq-eqb (r .third) (r .third) refl)
-
--- the fields of rows that are the same
-record Same (q r : Row) : Type 0 where
-  class : q .class ≡ r .class
-  first : q .first ≡ r .first
-  second : q .second ≡ r .second
-  third : q .third ≡ r .third
-
-same : (q r : Row) → isRow q r ≡ true → Same q r
-same q r e =
+is-row : (q r : Row) → isRow q r ≡ true → q ≡ r
+is-row q r e =
     let abc = and-left (eqb (q .class) (r .class) && eqb (q .first) (r .first) && eqb (q .second) (r .second)) (eqb (q .third) (r .third)) e in
     let ab = and-left (eqb (q .class) (r .class) && eqb (q .first) (r .first)) (eqb (q .second) (r .second)) abc in
+    same q r
+    (eqb-true (q .class) (r .class) (and-left (eqb (q .class) (r .class)) (eqb (q .first) (r .first)) ab))
+    (eqb-true (q .first) (r .first) (and-right (eqb (q .class) (r .class)) (eqb (q .first) (r .first)) ab))
+    (eqb-true (q .second) (r .second) (and-right (eqb (q .class) (r .class) && eqb (q .first) (r .first)) (eqb (q .second) (r .second)) abc))
+    (eqb-true (q .third) (r .third) (and-right (eqb (q .class) (r .class) && eqb (q .first) (r .first) && eqb (q .second) (r .second)) (eqb (q .third) (r .third)) e))
+
+row-is : (q r : Row) → q ≡ r → isRow q r ≡ true
+row-is q r e =
+    ap (isRow q) (sym e)
+    ∙ rw (eq-eqb (q .class) (q .class) refl, eq-eqb (q .first) (q .first) refl, eq-eqb (q .second) (q .second) refl, eq-eqb (q .third) (q .third) refl) refl
+
+-- ---- the rows that the table answers for
+
+record Listed (r : Row) : Type 0 where
+  class : r .class < classCount
+  first : r .first ≤ lastVariant
+  second : r .second ≤ lastVariant
+  third : r .third ≤ lastVariant
+
+listed : (r : Row) → hasCell r ≡ true → Listed r
+listed r e =
+    let abc = and-left (ltb (r .class) classCount && leb (r .first) lastVariant && leb (r .second) lastVariant) (leb (r .third) lastVariant) e in
+    let ab = and-left (ltb (r .class) classCount && leb (r .first) lastVariant) (leb (r .second) lastVariant) abc in
     record {
-      class = eqb-true (q .class) (r .class) (and-left (eqb (q .class) (r .class)) (eqb (q .first) (r .first)) ab);
-      first = eqb-true (q .first) (r .first) (and-right (eqb (q .class) (r .class)) (eqb (q .first) (r .first)) ab);
-      second = eqb-true (q .second) (r .second) (and-right (eqb (q .class) (r .class) && eqb (q .first) (r .first)) (eqb (q .second) (r .second)) abc);
-      third = eqb-true (q .third) (r .third) (and-right (eqb (q .class) (r .class) && eqb (q .first) (r .first) && eqb (q .second) (r .second)) (eqb (q .third) (r .third)) e);
+      class = ltb-true (r .class) classCount (and-left (ltb (r .class) classCount) (leb (r .first) lastVariant) ab);
+      first = leb-true (r .first) lastVariant (and-right (ltb (r .class) classCount) (leb (r .first) lastVariant) ab);
+      second = leb-true (r .second) lastVariant (and-right (ltb (r .class) classCount && leb (r .first) lastVariant) (leb (r .second) lastVariant) abc);
+      third = leb-true (r .third) lastVariant (and-right (ltb (r .class) classCount && leb (r .first) lastVariant && leb (r .second) lastVariant) (leb (r .third) lastVariant) e);
     }
 
-one-cell : (q r : Row) → isRow q r ≡ true → cellOf r ≡ cellOf q
-one-cell q r e = let s = same q r e in rw (s .class, s .first, s .second, s .third)
+fit : (r : Row) → hasCell r ≡ true → VariantsFit r
+fit r h = let l = listed r h in (omega (arith, l .first), omega (arith, l .second), omega (arith, l .third))
 
-both-listed : (q r : Row) → isRow q r ≡ true → hasCell r ≡ true → hasCell q ≡ true
-both-listed q r e h = let s = same q r e in rw (s .class, s .first, s .second, s .third) h
+pub within : (r : Row) → hasCell r ≡ true → rowNumber r < numberCount
+within r h = let l = listed r h in omega (arith, l .class, l .first, l .second, l .third)
+
+-- a class that has rows is listed, and so is a variant that passes question 4
+class-listed : (class : ℕ) → hasRows (foldingOf class) ≡ true → ltb class classCount ≡ true
+class-listed class h = go (ltb class classCount) refl
+  where
+    go : (b : Bool) → ltb class classCount ≡ b → b ≡ true
+    go true e = refl
+    go false e = absurd (false≢true (sym (ap hasRows (List·getD-eq-default classes Folding.Never {n = class} (ltb-false class classCount e))) ∙ h))
+
+variant-listed : (inputs place variant : ℕ) → isVariant inputs place variant ≡ true → leb variant lastVariant ≡ true
+variant-listed inputs place variant = go (ltb place inputs)
+  where
+    go : (b : Bool) → cond b (leb variant lastVariant) (eqb variant 0) ≡ true → leb variant lastVariant ≡ true
+    go true e = e
+    go false e = le-leb variant lastVariant (omega (arith, eqb-true variant 0 e))
+
+row-listed : (s : List ℕ) (at : ℕ) → isListed RowRole s at ≡ true → hasCell (rowAt s at) ≡ true
+row-listed s at h =
+    let row = rowAt s at in
+    let folding = foldingOf (row .class) in
+    let inputs = inputCount folding in
+    let first = isVariant inputs 0 (row .first) in
+    let second = isVariant inputs 1 (row .second) in
+    let third = isVariant inputs 2 (row .third) in
+    let abc = and-left (hasRows folding && first && second) third h in
+    let ab = and-left (hasRows folding && first) second abc in
+    rw (
+      class-listed (row .class) (and-left (hasRows folding) first ab),
+      variant-listed inputs 0 (row .first) (and-right (hasRows folding) first ab),
+      variant-listed inputs 1 (row .second) (and-right (hasRows folding && first) second abc),
+      variant-listed inputs 2 (row .third) (and-right (hasRows folding && first && second) third h),
+    ) refl
+
+pub below : (v : ℕ) → ltb v (suc lastVariant) ≡ leb v lastVariant
+below v = ap isLe (compare·suc-suc v lastVariant)
+
+pub answers : (r : Row) {t : Bool} → t ≡ hasCell r
+    → (t ≡ hasCell r) × (((s : List ℕ) (at : ℕ) → rowAt s at ≡ r → isListed RowRole s at ≡ true → t ≡ true) × (t ≡ true → VariantsFit r))
+answers r e = (e, (λ s at q h. e ∙ ap hasCell (sym q) ∙ row-listed s at h, λ h. fit r (sym e ∙ h)))
+
+-- ---- the number of a row
+
+-- two rows have the same number exactly when their class and all three variants agree
+one-row : (q r : Row) → VariantsFit q → VariantsFit r → rowNumber q ≡ rowNumber r → q ≡ r
+one-row q r (a, b, c) (x, y, z) e =
+    let class : q .class ≡ r .class = omega (arith, a, b, c, x, y, z, e) in
+    let first : q .first ≡ r .first = omega (arith, class, b, c, y, z, e) in
+    let second : q .second ≡ r .second = omega (arith, class, first, c, z, e) in
+    same q r class first second (omega (arith, class, first, second, e))
+
+pub numbered : (q : Row) {n : ℕ} → n ≡ rowNumber q → (n ≡ rowNumber q) × ((r : Row) → SameNumber q r)
+numbered q e = (e, λ r h k. (one-row q r h k, ap rowNumber))
 
 -- ---- marking
 
-module _ (before : List Row) (x : Row) (cells : List Bool) (m : Cells before cells) where
-  marks : hasCell x ≡ true → Cells (before ++ (x ∷ [])) (set cells (cellOf x) true)
-  marks h = record { long = length-set cells (cellOf x) true ∙ m .long; marked = λ r k. at r k (isRow x r) refl }
-    where
-      within : cellOf x < length cells
-      within = let l = listed x h in omega (arith, m .long, l .class, l .first, l .second, l .third)
+decides : (q r : Row) → (rowNumber q ≡ rowNumber r) ↔ (q ≡ r) → eqb (rowNumber q) (rowNumber r) ≡ isRow q r
+decides q r (to, from) = go (isRow q r) refl
+  where
+    go : (b : Bool) → isRow q r ≡ b → eqb (rowNumber q) (rowNumber r) ≡ b
+    go true e = eq-eqb (rowNumber q) (rowNumber r) (from (is-row q r e))
+    go false e = ne-eqb (rowNumber q) (rowNumber r) (λ z. false≢true (sym e ∙ row-is q r (to z)))
 
-      at : (r : Row) → hasCell r ≡ true → (b : Bool) → isRow x r ≡ b → getD (set cells (cellOf x) true) (cellOf r) false ≡ covers (before ++ (x ∷ [])) r
-      at r k true e = ap (λ (i : ℕ). getD (set cells (cellOf x) true) i false) (one-cell x r e) ∙ getD-set-same cells (cellOf x) true false within ∙ sym (covers-snoc before x r ∙ ap (λ (t : Bool). covers before r || t) e ∙ or-true (covers before r))
-      at r k false e =
-          getD-set-other cells (cellOf x) (cellOf r) true false (λ z. false≢true (sym e ∙ same-row x r (listed x h) (listed r k) (sym z)))
-          ∙ m .marked r k
-          ∙ sym (covers-snoc before x r ∙ ap (λ (t : Bool). covers before r || t) e ∙ or-false (covers before r))
-
-  passes : hasCell x ≡ false → Cells (before ++ (x ∷ [])) cells
-  passes h = record { long = m .long; marked = λ r k. at r k (isRow x r) refl }
-    where
-      at : (r : Row) → hasCell r ≡ true → (b : Bool) → isRow x r ≡ b → getD cells (cellOf r) false ≡ covers (before ++ (x ∷ [])) r
-      at r k true e = absurd (false≢true (sym h ∙ both-listed x r e k))
-      at r k false e = m .marked r k ∙ sym (covers-snoc before x r ∙ ap (λ (t : Bool). covers before r || t) e ∙ or-false (covers before r))
-
--- y is the row x as it was read, and t whether it has a cell
-module _ (before : List Row) {x y : Row} (e : y ≡ x) {t : Bool} (h : t ≡ hasCell y) {cells : List Bool} (m : Cells before cells) where
-  pub marks-cell : t ≡ true → {i : ℕ} → i ≡ cellOf y → Cells (before ++ (x ∷ [])) (set cells i true)
-  marks-cell k {i} c =
-      subst (λ (j : ℕ). Cells (before ++ (x ∷ [])) (set cells j true)) (sym (c ∙ ap cellOf e))
-      (marks before x cells m (ap hasCell (sym e) ∙ sym h ∙ k))
+-- y is the row x as it was read, and t whether the table answers for it
+module _ (before : List Row) {x y : Row} (e : y ≡ x) {t : Bool} (h : t ≡ hasCell y) {cells : List ℕ} (m : Cells before cells) where
+  pub marks-row : t ≡ true → (t ≡ true → VariantsFit y) → {n : ℕ} → n ≡ rowNumber y → ((r : Row) → SameNumber y r) → {after : List ℕ} → Marks cells n after → Cells (before ++ (x ∷ [])) after
+  marks-row k fits {n} number alone s =
+      record {
+        long = s .long ∙ m .long;
+        marked = λ r l.
+            s .numbers (rowNumber r)
+            ∙ ap₂ _||_ (m .marked r l) (ap (λ (i : ℕ). eqb i (rowNumber r)) number ∙ decides y r (alone r (fits k) (fit r l)) ∙ ap (λ (q : Row). isRow q r) e)
+            ∙ sym (covers-snoc before x r);
+      }
 
   pub passes-row : t ≡ false → Cells (before ++ (x ∷ [])) cells
-  passes-row k = passes before x cells m (ap hasCell (sym e) ∙ sym h ∙ k)
+  passes-row k = record { long = m .long; marked = λ r l. m .marked r l ∙ sym (covers-snoc before x r ∙ ap (λ (b : Bool). covers before r || b) (other r l (isRow x r) refl) ∙ or-false (covers before r)) }
+    where
+      other : (r : Row) → hasCell r ≡ true → (b : Bool) → isRow x r ≡ b → b ≡ false
+      other r l true q = absurd (false≢true (sym k ∙ h ∙ ap hasCell (e ∙ is-row x r q) ∙ l))
+      other r l false q = refl
 
-pub none-marked : Cells [] (replicate cellCount false)
+pub none-marked : Cells [] (replicate wordCount 0)
 unfolding covers
-none-marked = record { long = length-replicate cellCount false; marked = λ r k. let l = listed r k in getD-replicate cellCount (cellOf r) false false (omega (arith, l .class, l .first, l .second, l .third)) }
+none-marked = record { long = length-replicate {A = ℕ} wordCount 0; marked = λ r k. none-set wordCount (rowNumber r) (omega (arith, within r k)) }
 
 -- ---- the run of rows
 
 module _ (rows : List ℕ) where
-  pub further : (n k : ℕ) (cells after : List Bool) → n ≡ length rows / 5 → k < n
+  pub further : (n k : ℕ) (cells after : List ℕ) → n ≡ length rows / 5 → k < n
       → ((before : List Row) → Cells before cells → Cells (before ++ (getD (rowsOf rows) k noRow ∷ [])) after)
       → Cells (take k (rowsOf rows)) cells → Cells (take (k + 1) (rowsOf rows)) after
   further n k cells after e h step m =
@@ -122,5 +168,5 @@ module _ (rows : List ℕ) where
       (sym (ap (λ (i : ℕ). take i (rowsOf rows)) (add-one k) ∙ take-suc (rowsOf rows) k noRow (omega (arith, rows-length rows))))
       (step (take k (rowsOf rows)) m)
 
-  pub end : (n k : ℕ) (cells : List Bool) → n ≡ length rows / 5 → n ≤ k → Cells (take k (rowsOf rows)) cells → Cells (rowsOf rows) cells
+  pub end : (n k : ℕ) (cells : List ℕ) → n ≡ length rows / 5 → n ≤ k → Cells (take k (rowsOf rows)) cells → Cells (rowsOf rows) cells
   end n k cells e h m = subst (λ (l : List Row). Cells l cells) (take-all k (rowsOf rows) (omega (arith, rows-length rows))) m

@@ -1,12 +1,14 @@
 -- Document 01, "`covers` is membership of the exact row", and "0B annihilator: .. 12 (a false settles it) or 13 (a true settles it)".
-use Prim.Native.Nat.{ℕ, _+_, _*_}
+use Prim.Native.Nat.{ℕ, _+_, _-_, _*_, _/_, _%_, _^_, _<_}
 use mathlib.Core.Path.{_≡_}
+use mathlib.Core.Logic.{_↔_}
 use mathlib.Core.Bool.{Bool, true, false, cond, _&&_, _||_}
 use mathlib.Core.Option.{Option, none, some}
 use mathlib.Core.List.{List, [], _∷_}
 use lib.Dec.{eqb, leb}
 use lib.ListN.{length, getD}
 use Rattle.ir.specs.Classes.{classCount, isClass}
+use Rattle.whole.specs.Bits.{bit}
 use Rattle.graph.specs.declared.Counts.{Counts}
 use Rattle.graph.specs.declared.Row.{Row}
 use Rattle.table.specs.declared.AnnihilatorKind.{AnnihilatorKind}
@@ -14,6 +16,7 @@ use Rattle.table.specs.declared.AnnihilatorKind.the-variants.{AndFalse, 
 use Rattle.table.specs.declared.OptionAnnihilator.{OptionAnnihilator}
 use Rattle.table.specs.declared.OptionAnnihilator.the-variants.{None, Some}
 
+-- whether two rows agree in class and all three variants
 abbrev pub isRow : Row → Row → Bool
 isRow a b = eqb (a .class) (b .class) && eqb (a .first) (b .first) && eqb (a .second) (b .second) && eqb (a .third) (b .third)
 
@@ -22,27 +25,57 @@ unfoldable pub covers : List Row → Row → Bool
 covers [] row = false
 covers (r ∷ rs) row = isRow r row || covers rs row
 
--- the rows that have a cell in the array: those of a listed class and listed variants
+-- "Variants: 0 Unwired, .., 7 Color"
+abbrev pub lastVariant : ℕ
+lastVariant = 7
+
+-- the rows that the table answers for: those of a listed class and listed variants
 abbrev pub hasCell : Row → Bool
-hasCell r = ((isClass (r .class) && leb (r .first) 7) && leb (r .second) 7) && leb (r .third) 7
+hasCell r = isClass (r .class) && leb (r .first) lastVariant && leb (r .second) lastVariant && leb (r .third) lastVariant
 
--- how many cells it has
-abbrev pub cellCount : ℕ
-cellCount = classCount * 8 * 8 * 8
+-- Document 02, Wish 3, "form the wanted row as a single number": the class, then the variants as three digits to the base of nine
+abbrev pub variantRoom : ℕ
+variantRoom = 9
 
-abbrev pub cellOf : Row → ℕ
-cellOf r = ((r .class * 8 + r .first) * 8 + r .second) * 8 + r .third
+abbrev pub rowNumber : Row → ℕ
+rowNumber r = ((r .class * variantRoom + r .first) * variantRoom + r .second) * variantRoom + r .third
 
--- what the table of rows holds, and whether it has a row
+-- each variant is such a digit
+abbrev pub VariantsFit : Row → Type 0
+VariantsFit r = (r .first < variantRoom) × (r .second < variantRoom) × (r .third < variantRoom)
+
+-- "two rows have the same number exactly when their class and all three variants agree"
+abbrev pub SameNumber : Row → Row → Type 0
+SameNumber q r = VariantsFit q → VariantsFit r → (rowNumber q ≡ rowNumber r) ↔ (q ≡ r)
+
+-- how many numbers the rows of the listed classes have whose variants fit, and how many words of 64 bits hold a bit for each
+abbrev pub numberCount : ℕ
+numberCount = classCount * variantRoom ^ 3
+
+abbrev pub wordBits : ℕ
+wordBits = 64
+
+abbrev pub wordCount : ℕ
+wordCount = (numberCount + wordBits - 1) / wordBits
+
+-- what the table of rows holds: words, whose bits are a set of numbers; whether it has a number, and whether it has a row
 abbrev pub RowTable : Type 0
-RowTable = List Bool
+RowTable = List ℕ
+
+abbrev pub hasNumber : RowTable → ℕ → Bool
+hasNumber cells n = eqb (bit (getD cells (n / wordBits) 0) (n % wordBits)) 1
 
 abbrev pub isMarked : RowTable → Row → Bool
-isMarked cells r = getD cells (cellOf r) false
+isMarked cells r = hasNumber cells (rowNumber r)
 
--- the table has these rows, and no others
+-- after has n beside the numbers that cells has, and no others
+pub record Marks (cells : RowTable) (n : ℕ) (after : RowTable) : Type 0 where
+  pub long : length after ≡ length cells
+  pub numbers : (m : ℕ) → hasNumber after m ≡ (hasNumber cells m || eqb n m)
+
+-- of the rows that it answers for, the table has these and no others
 pub record Cells (rows : List Row) (cells : RowTable) : Type 0 where
-  pub long : length cells ≡ cellCount
+  pub long : length cells ≡ wordCount
   pub marked : (r : Row) → hasCell r ≡ true → isMarked cells r ≡ covers rows r
 
 -- the Bool of each case: "a false settles it", "a true settles it"

@@ -10,9 +10,12 @@ ghost use mathlib.Core.List.{List, [], _∷_, _++_};
 ghost use lib.ListN.{length, getD};
 ghost use Rattle.ir.specs.Classes.{settles};
 ghost use Rattle.graph.specs.declared.Row.{Row};
-ghost use Prim.Native.Nat.{_<_};
+ghost use Rattle.graph.specs.Graph.{rowAt};
+ghost use Rattle.graph.specs.Questions.{isListed};
+ghost use Rattle.ir.specs.declared.Role.the-variants.{Row as RowRole};
+ghost use Prim.Native.Nat.{ℕ, _<_};
 ghost use Rattle.records.specs.Access.{rowsOf, noRow};
-ghost use Rattle.table.specs.Table.{covers as coversOf, hasCell, cellCount, cellOf, isMarked, Cells, settling, counted};
+ghost use Rattle.table.specs.Table.{covers as coversOf, hasCell, rowNumber, VariantsFit, SameNumber, numberCount, wordCount, hasNumber, isMarked, Marks, Cells, settling, counted};
 
 // The Bool that settles a gate: a false an AND, a true an OR.
 pub enum AnnihilatorKind {
@@ -25,13 +28,20 @@ pub enum OptionAnnihilator {
     Some(AnnihilatorKind),
 }
 
-// How many cells the table of rows has: one for each class and three variants.
-const CELLS: usize = class::COUNT * variant::COUNT * variant::COUNT * variant::COUNT;
+// The base of a row's number: variants 0 to 8 fit.
+const VARIANT_ROOM: usize = 9;
 
-// The table of rows.
-pub type Rows = [bool; CELLS];
+// How many numbers rows have.
+const NUMBERS: usize = class::COUNT * VARIANT_ROOM * VARIANT_ROOM * VARIANT_ROOM;
 
-pub const NO_ROWS: Rows = [false; CELLS];
+const WORD_BITS: usize = 64;
+
+const WORDS: usize = (NUMBERS + WORD_BITS - 1) / WORD_BITS;
+
+// The table of rows: a bit for each number.
+pub type Rows = [u64; WORDS];
+
+pub const NO_ROWS: Rows = [0; WORDS];
 
 fn wide(x: u8) -> usize
     ensures { λ r. ⌜ r ≡ x ⌝ }
@@ -39,38 +49,59 @@ fn wide(x: u8) -> usize
     x as usize
 }
 
-// Whether a row has a cell.
+// Whether the table answers for a row: it does for each that passes question 4.
 fn has_cell(class: u8, first: u8, second: u8, third: u8) -> bool
-    ensures { λ r. ⌜ r ≡ hasCell (record { class = class; first = first; second = second; third = third }) ⌝ }
+    ensures cell { λ r. ⌜ r ≡ hasCell (record { class = class; first = first; second = second; third = third }) ⌝ }
+    ensures listed { λ r. ⌜ ((s : List ℕ) (at : ℕ) → rowAt s at ≡ record { class = class; first = first; second = second; third = third } → isListed RowRole s at ≡ true → r ≡ true) ⌝ }
+    ensures fits { λ r. ⌜ (r ≡ true → VariantsFit (record { class = class; first = first; second = second; third = third })) ⌝ }
 {
     (wide(class) < class::COUNT)
-        & (first <= variant::COLOR)
-        & (second <= variant::COLOR)
-        & (third <= variant::COLOR)
+        & (wide(first) < variant::COUNT)
+        & (wide(second) < variant::COUNT)
+        & (wide(third) < variant::COUNT)
 }
 
-// The cell of a row.
-fn cell_of(class: u8, first: u8, second: u8, third: u8) -> usize
-    requires { ⌜ hasCell (record { class = class; first = first; second = second; third = third }) ≡ true ⌝ }
-    ensures { λ r. ⌜ (r ≡ cellOf (record { class = class; first = first; second = second; third = third })) × (r < cellCount) ⌝ }
+// A row as a single number.
+fn row_number(class: u8, first: u8, second: u8, third: u8) -> usize
+    ensures number { λ n. ⌜ n ≡ rowNumber (record { class = class; first = first; second = second; third = third }) ⌝ }
+    ensures alone { λ _. ⌜ ((r : Row) → SameNumber (record { class = class; first = first; second = second; third = third }) r) ⌝ }
 {
-    ((wide(class) * variant::COUNT + wide(first)) * variant::COUNT + wide(second)) * variant::COUNT
+    ((wide(class) * VARIANT_ROOM + wide(first)) * VARIANT_ROOM + wide(second)) * VARIANT_ROOM
         + wide(third)
 }
 
-// Marks the cell of the k-th of a run of row records.
+// Whether a number is in the table.
+fn has_number(cells: &Rows, n: usize) -> bool
+    requires { ⌜ n < numberCount ⌝ }
+    ensures { λ r. ⌜ r ≡ hasNumber (now (cells .entry)) n ⌝ }
+{
+    let k = n / WORD_BITS;
+    (cells[k] >> (n % WORD_BITS)) % 2 == 1
+}
+
+// Puts a number into the table.
+fn mark_number(cells: &mut Rows, n: usize)
+    requires { ⌜ (n < numberCount) × (length (now cells) ≡ wordCount) ⌝ }
+    ensures { λ _. ⌜ Marks (now (cells .entry)) n (now (cells .exit)) ⌝ }
+{
+    let k = n / WORD_BITS;
+    let bit: u64 = 1 << (n % WORD_BITS);
+    cells[k] = cells[k] | bit;
+}
+
+// Marks the k-th of a run of row records.
 fn mark(rows: &[u8], k: usize, cells: &mut Rows)
-    requires { ⌜ k < length (rowsOf (now rows)) ⌝ }
+    requires { ⌜ (k < length (rowsOf (now rows))) × (length (now cells) ≡ wordCount) ⌝ }
     ensures { λ _. ⌜ ((before : List Row) → Cells before (now (cells .entry)) → Cells (before ++ (getD (rowsOf (now (rows .entry))) k noRow ∷ [])) (now (cells .exit))) ⌝ }
 {
     let row = access::row(rows, k);
     if has_cell(row.class, row.first, row.second, row.third) {
-        let i = cell_of(row.class, row.first, row.second, row.third);
-        cells[i] = true;
+        let n = row_number(row.class, row.first, row.second, row.third);
+        mark_number(cells, n);
     }
 }
 
-// Marks the cells of a run of row records, and no others.
+// Marks the rows of a run of row records, and no others.
 pub fn index_rows(rows: &[u8], cells: &mut Rows)
     ensures { λ _. ⌜ Cells (rowsOf (now (rows .entry))) (now (cells .exit)) ⌝ }
 {
@@ -83,14 +114,14 @@ pub fn index_rows(rows: &[u8], cells: &mut Rows)
     }
 }
 
-// Whether the table has this row.
+// Whether the table has this row: its number is formed once and looked up, without a loop.
 pub fn covers(cells: &Rows, class: u8, first: u8, second: u8, third: u8) -> bool
     requires { ⌜ hasCell (record { class = class; first = first; second = second; third = third }) ≡ true ⌝ }
     ensures marked { λ r. ⌜ r ≡ isMarked (now (cells .entry)) (record { class = class; first = first; second = second; third = third }) ⌝ }
     ensures rows { λ r. ⌜ ((rows : List Row) → Cells rows (now (cells .entry)) → r ≡ coversOf rows (record { class = class; first = first; second = second; third = third })) ⌝ }
 {
-    let i = cell_of(class, first, second, third);
-    cells[i]
+    let n = row_number(class, first, second, third);
+    has_number(cells, n)
 }
 
 // The annihilator of a class, where a record of it was counted.

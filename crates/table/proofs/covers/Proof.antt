@@ -1,24 +1,24 @@
 -- `table::covers` meets its contract.
-use mathlib.Core.Bool.{false}
-use mathlib.Core.Path.{ap, _∙_}
-use Prim.Native.Nat.{ℕ}
-use lib.ListN.{getD}
+use Prim.Native.Nat.{ℕ, _<_}
+use mathlib.Core.Path.{sym, ap, subst, _∙_}
 use denote.Ref.{now}
+use Rattle.table.specs.Table.{numberCount, hasNumber}
+use Rattle.table.proofs.Search.{within}
 use borrow.Author.Needs.{needs}
 use Rattle.table.proofs.covers.Statement.{statement}
 use Rattle.table.proofs.covers.Tie as tie
 
-cell-of-requires : tie.Need-cell-of-requires
-cell-of-requires c κs = c .pre
+row-number-requires : tie.Need-row-number-requires
+row-number-requires c κs = search needs
 
-element-copy-out-result : tie.Need-element-copy-out-result
-element-copy-out-result c = search needs
+has-number-requires : tie.Need-has-number-requires
+has-number-requires c κs = subst (λ (n : ℕ). n < numberCount) (sym (c .row-number .ensures .0)) (within _ (c .before .pre))
 
 returns : tie.Need-returns
 returns c =
     let s = c .before .before in
-    let e = ap (λ (i : ℕ). getD (now (s .args .cells)) i false) (c .before .cell-of .ensures .0) in
+    let e = c .has-number .ensures ∙ ap (λ (n : ℕ). hasNumber (now (s .args .cells)) n) (c .before .row-number .ensures .0) in
     (e, λ rows m. e ∙ m .marked _ (s .pre))
 
 pub covers-spec : {M : Type 1} → statement M
-covers-spec = tie.close (tie.spec cell-of-requires element-copy-out-result returns)
+covers-spec = tie.close (tie.spec row-number-requires has-number-requires returns)

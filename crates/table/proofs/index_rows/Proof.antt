@@ -20,7 +20,8 @@ loop-holds : tie.Need-loop-holds Inv-loop μ-loop
 loop-holds c = (refl, none-marked)
 
 mark-requires : tie.Need-mark-requires Inv-loop μ-loop
-mark-requires c κs = omega (arith, rows-length (c .before .before .before .before .args .rows .now), c .before .before .loop .inv .0, c .before .loop-test .taken)
+mark-requires c κs = let i = c .before .before .loop .inv in
+    (omega (arith, rows-length (c .before .before .before .before .args .rows .now), i .0, c .before .loop-test .taken), i .1 .long)
 
 add-k : tie.Need-add-k Inv-loop μ-loop
 add-k c = omega arith

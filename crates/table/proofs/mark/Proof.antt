@@ -1,6 +1,8 @@
 -- `table::mark` meets its contract.
-use mathlib.Core.Path.{sym, _∙_}
-use Rattle.table.proofs.Search.{marks-cell, passes-row}
+use Prim.Native.Nat.{_<_}
+use mathlib.Core.Path.{sym, subst, _∙_}
+use Rattle.table.specs.Table.{numberCount}
+use Rattle.table.proofs.Search.{within, marks-row, passes-row}
 use borrow.Author.Needs.{needs}
 use Rattle.table.proofs.mark.Statement.{statement}
 use Rattle.table.proofs.mark.Tie as tie
@@ -11,17 +13,23 @@ row-requires c κs = search needs
 has-cell-requires : tie.Need-has-cell-requires
 has-cell-requires c κs = search needs
 
-cell-of-requires : tie.Need-cell-of-requires
-cell-of-requires c κs = sym (c .before .has-cell .ensures) ∙ c .if1 .taken
+row-number-requires : tie.Need-row-number-requires
+row-number-requires c κs = search needs
 
-element-write-cells : tie.Need-element-write-cells
-element-write-cells c = search needs
+mark-number-requires : tie.Need-mark-number-requires
+mark-number-requires c κs = (
+  subst (λ n. n < numberCount) (sym (c .before .row-number .ensures .0)) (within _ (sym (c .before .before .before .has-cell .ensures .0) ∙ c .before .before .if1 .taken)),
+  c .before .before .before .before .before .before .pre .1,
+)
 
 returns : tie.Need-returns
-returns c = λ before m. marks-cell before (c .before .before .before .row .ensures) (c .before .before .has-cell .ensures) m (c .before .if1 .taken) (c .cell-of .ensures .0)
+returns c = λ before m.
+    let cell = c .before .before .before .before .has-cell .ensures in
+    let number = c .before .before .row-number .ensures in
+    marks-row before (c .before .before .before .before .before .row .ensures) (cell .0) m (c .before .before .before .if1 .taken) (cell .1 .1) (number .0) (number .1) (c .mark-number .ensures)
 
 returns-2 : tie.Need-returns-2
-returns-2 c = λ before m. passes-row before (c .before .before .row .ensures) (c .before .has-cell .ensures) m (c .if1 .left)
+returns-2 c = λ before m. passes-row before (c .before .before .row .ensures) (c .before .has-cell .ensures .0) m (c .if1 .left)
 
 pub mark-spec : {M : Type 1} → statement M
 mark-spec =
@@ -29,7 +37,7 @@ mark-spec =
     (tie.spec
     row-requires
     has-cell-requires
-    cell-of-requires
-    element-write-cells
+    row-number-requires
+    mark-number-requires
     returns
     returns-2)

@@ -1,9 +1,8 @@
--- `table::cell_of` meets its contract.
-use native.Mathlib.Omega.{arith}
-use Rattle.table.proofs.Search.{listed}
+-- `table::row_number` meets its contract.
+use Rattle.table.proofs.Search.{numbered}
 use borrow.Author.Needs.{needs}
-use Rattle.table.proofs.cell_of.Statement.{statement}
-use Rattle.table.proofs.cell_of.Tie as tie
+use Rattle.table.proofs.row_number.Statement.{statement}
+use Rattle.table.proofs.row_number.Tie as tie
 
 wide-requires : tie.Need-wide-requires
 wide-requires c κs = search needs
@@ -38,15 +37,11 @@ add-result-3 c = search needs
 returns : tie.Need-returns
 returns c =
     let k = c .before .before .before .before .args in
-    let l = listed (record { class = k .class; first = k .first; second = k .second; third = k .third }) (c .before .before .before .before .pre) in
-    let a = c .before .before .before .wide .ensures in
-    let b = c .before .before .wide2 .ensures in
-    let d = c .before .wide3 .ensures in
-    let e = c .wide4 .ensures in
-    (rw (a, b, d, e), omega (arith, a, b, d, e, l .class, l .first, l .second, l .third))
+    numbered (record { class = k .class; first = k .first; second = k .second; third = k .third })
+    (rw (c .before .before .before .wide .ensures, c .before .before .wide2 .ensures, c .before .wide3 .ensures, c .wide4 .ensures))
 
-pub cell-of-spec : {M : Type 1} → statement M
-cell-of-spec =
+pub row-number-spec : {M : Type 1} → statement M
+row-number-spec =
     tie.close
     (tie.spec
     wide-requires
