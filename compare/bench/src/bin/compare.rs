@@ -36,7 +36,8 @@ struct Case {
 fn cases(count: u64, seed: u64) -> impl Iterator<Item = Case> {
     let of = |family| move |input| Case { family, input };
     let shapes = shapes::all().into_iter().map(|shape| shape.input);
-    let shapes = shapes.chain(shapes::limits()).chain(certain::all());
+    let shapes = shapes.chain(shapes::limits());
+    let shapes = shapes.chain(certain::all()).chain(certain::rows());
     let shapes = shapes.map(of("certain"));
     let short = families::short_inputs().map(of("two bytes"));
     let random = (0..count).map(move |index| {
