@@ -29,14 +29,15 @@ covers (r ∷ rs) row = isRow r row || covers rs row
 abbrev pub lastVariant : ℕ
 lastVariant = 7
 
--- the rows that the table answers for: those of a listed class and listed variants
+-- the rows that the table answers for, those that have a cell: of a listed class and listed variants
 abbrev pub hasCell : Row → Bool
 hasCell r = isClass (r .class) && leb (r .first) lastVariant && leb (r .second) lastVariant && leb (r .third) lastVariant
 
--- Document 02, Wish 3, "form the wanted row as a single number": the class, then the variants as three digits to the base of nine
+-- the base of a row's number: room for nine variants, one more than there are
 abbrev pub variantRoom : ℕ
 variantRoom = 9
 
+-- Document 02, Wish 3, "form the wanted row as a single number": the class, then the variants as three digits to that base
 abbrev pub rowNumber : Row → ℕ
 rowNumber r = ((r .class * variantRoom + r .first) * variantRoom + r .second) * variantRoom + r .third
 
@@ -44,11 +45,11 @@ rowNumber r = ((r .class * variantRoom + r .first) * variantRoom + r .second) * 
 abbrev pub VariantsFit : Row → Type 0
 VariantsFit r = (r .first < variantRoom) × (r .second < variantRoom) × (r .third < variantRoom)
 
--- "two rows have the same number exactly when their class and all three variants agree"
+-- "two rows have the same number exactly when their class and all three variants agree", of rows whose variants are such digits
 abbrev pub SameNumber : Row → Row → Type 0
 SameNumber q r = VariantsFit q → VariantsFit r → (rowNumber q ≡ rowNumber r) ↔ (q ≡ r)
 
--- how many numbers the rows of the listed classes have whose variants fit, and how many words of 64 bits hold a bit for each
+-- how many numbers there are of rows of a listed class whose variants fit, and how many words hold a bit for each
 abbrev pub numberCount : ℕ
 numberCount = classCount * variantRoom ^ 3
 
@@ -58,7 +59,7 @@ wordBits = 64
 abbrev pub wordCount : ℕ
 wordCount = (numberCount + wordBits - 1) / wordBits
 
--- what the table of rows holds: words, whose bits are a set of numbers; whether it has a number, and whether it has a row
+-- the table of rows: words, whose bits are a set of numbers; whether it has a number, and whether it has a row
 abbrev pub RowTable : Type 0
 RowTable = List ℕ
 

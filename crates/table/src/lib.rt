@@ -28,20 +28,20 @@ pub enum OptionAnnihilator {
     Some(AnnihilatorKind),
 }
 
-// The base of a row's number: variants 0 to 8 fit.
+// The base of a row's number: room for nine variants, one more than there are.
 const VARIANT_ROOM: usize = 9;
 
-// How many numbers rows have.
-const NUMBERS: usize = class::COUNT * VARIANT_ROOM * VARIANT_ROOM * VARIANT_ROOM;
+// How many numbers there are of rows of a listed class whose variants fit.
+const NUMBER_COUNT: usize = class::COUNT * VARIANT_ROOM * VARIANT_ROOM * VARIANT_ROOM;
 
 const WORD_BITS: usize = 64;
 
-const WORDS: usize = (NUMBERS + WORD_BITS - 1) / WORD_BITS;
+const WORD_COUNT: usize = (NUMBER_COUNT + WORD_BITS - 1) / WORD_BITS;
 
 // The table of rows: a bit for each number.
-pub type Rows = [u64; WORDS];
+pub type Rows = [u64; WORD_COUNT];
 
-pub const NO_ROWS: Rows = [0; WORDS];
+pub const NO_ROWS: Rows = [0; WORD_COUNT];
 
 fn wide(x: u8) -> usize
     ensures { λ r. ⌜ r ≡ x ⌝ }
@@ -64,7 +64,7 @@ fn has_cell(class: u8, first: u8, second: u8, third: u8) -> bool
 // A row as a single number.
 fn row_number(class: u8, first: u8, second: u8, third: u8) -> usize
     ensures number { λ n. ⌜ n ≡ rowNumber (record { class = class; first = first; second = second; third = third }) ⌝ }
-    ensures alone { λ _. ⌜ ((r : Row) → SameNumber (record { class = class; first = first; second = second; third = third }) r) ⌝ }
+    ensures same_number { λ _. ⌜ ((r : Row) → SameNumber (record { class = class; first = first; second = second; third = third }) r) ⌝ }
 {
     ((wide(class) * VARIANT_ROOM + wide(first)) * VARIANT_ROOM + wide(second)) * VARIANT_ROOM
         + wide(third)
@@ -89,7 +89,7 @@ fn mark_number(cells: &mut Rows, n: usize)
     cells[k] = cells[k] | bit;
 }
 
-// Marks the k-th of a run of row records.
+// Marks the k-th of a run of row records, where the table answers for it.
 fn mark(rows: &[u8], k: usize, cells: &mut Rows)
     requires { ⌜ (k < length (rowsOf (now rows))) × (length (now cells) ≡ wordCount) ⌝ }
     ensures { λ _. ⌜ ((before : List Row) → Cells before (now (cells .entry)) → Cells (before ++ (getD (rowsOf (now (rows .entry))) k noRow ∷ [])) (now (cells .exit))) ⌝ }
@@ -101,7 +101,7 @@ fn mark(rows: &[u8], k: usize, cells: &mut Rows)
     }
 }
 
-// Marks the rows of a run of row records, and no others.
+// Makes the table that of a run of row records: of the rows that it answers for, these and no others.
 pub fn index_rows(rows: &[u8], cells: &mut Rows)
     ensures { λ _. ⌜ Cells (rowsOf (now (rows .entry))) (now (cells .exit)) ⌝ }
 {
