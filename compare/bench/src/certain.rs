@@ -54,6 +54,35 @@ fn add_gate(graph: &mut Graph, class: u8, operands: &[Operand]) {
     graph.row(class, row);
 }
 
+/// A gate of each class, of Ints and of Floats and an Int: with every row of its class but its own, and with its own twice.
+pub fn rows() -> Vec<Vec<u8>> {
+    let ints = [int(6), int(3), int(4)];
+    let mixed = [float(2.5), int(3), float(4.0)];
+    let mut inputs = Vec::new();
+    for class in class::COMPARE_EQUAL..=LAST_CLASS {
+        for operands in [&ints, &mixed] {
+            let mut graph = Graph::default();
+            add_gate(&mut graph, class, operands);
+            let own = graph.rows.clone();
+            graph.rows.extend_from_slice(&own);
+            inputs.push(graph.bytes());
+            graph.rows = all_rows(class);
+            graph.rows.retain(|row| *row != own[0]);
+            inputs.push(graph.bytes());
+        }
+    }
+    inputs
+}
+
+/// Every row that a class may have.
+fn all_rows(class: u8) -> Vec<[u8; 4]> {
+    let inputs = INPUT_PORTS[usize::from(class)].len() as u32;
+    let variants = usize::from(variant::COLOR) + 1;
+    let digit = |number: usize, place: u32| (number / variants.pow(place) % variants) as u8;
+    let row = |number| [class, digit(number, 0), digit(number, 1), digit(number, 2)];
+    (0..variants.pow(inputs)).map(row).collect()
+}
+
 /// Ints up to 2^53, and beyond it such as are floats, lie half way between two, or beside one.
 const LONG_INTS: [i64; 18] = [
     (1 << 53) - 1,
@@ -155,35 +184,6 @@ fn root_operands() -> Vec<Operand> {
     let others = others.map(|(variant, bytes)| (variant, vec![1; bytes]));
     let floats = ROOT_FLOATS.map(float).into_iter();
     floats.chain(ROOT_INTS.map(int)).chain(others).collect()
-}
-
-/// A gate of each class, of Ints and of Floats and an Int: with every row of its class but its own, and with its own twice.
-pub fn rows() -> Vec<Vec<u8>> {
-    let ints = [int(6), int(3), int(4)];
-    let mixed = [float(2.5), int(3), float(4.0)];
-    let mut inputs = Vec::new();
-    for class in class::COMPARE_EQUAL..=LAST_CLASS {
-        for operands in [&ints, &mixed] {
-            let mut graph = Graph::default();
-            add_gate(&mut graph, class, operands);
-            let own = graph.rows.clone();
-            graph.rows.extend_from_slice(&own);
-            inputs.push(graph.bytes());
-            graph.rows = all_rows(class);
-            graph.rows.retain(|row| *row != own[0]);
-            inputs.push(graph.bytes());
-        }
-    }
-    inputs
-}
-
-/// Every row that a class may have.
-fn all_rows(class: u8) -> Vec<[u8; 4]> {
-    let inputs = INPUT_PORTS[usize::from(class)].len() as u32;
-    let variants = usize::from(variant::COLOR) + 1;
-    let digit = |number: usize, place: u32| (number / variants.pow(place) % variants) as u8;
-    let row = |number| [class, digit(number, 0), digit(number, 1), digit(number, 2)];
-    (0..variants.pow(inputs)).map(row).collect()
 }
 
 /// Two Ints, the same as Floats, other Floats, and an Int with half the other.
