@@ -28,6 +28,12 @@ covers-snoc [] x row = or-false (isRow x row)
 covers-snoc (y ∷ xs) x row =
     ap (λ (t : Bool). isRow y row || t) (covers-snoc xs x row) ∙ sym (or-assoc (isRow y row) (covers xs row) (isRow x row))
 
+all-four : (a b c d : Bool) → (a && b && c && d) ≡ true → (a ≡ true) × (b ≡ true) × (c ≡ true) × (d ≡ true)
+all-four a b c d e =
+    let abc = and-left (a && b && c) d e in
+    let ab = and-left (a && b) c abc in
+    (and-left a b ab, and-right a b ab, and-right (a && b) c abc, and-right (a && b && c) d e)
+
 -- ---- rows that are the same
 
 same : (q r : Row) → q .class ≡ r .class → q .first ≡ r .first → q .second ≡ r .second → q .third ≡ r .third → q ≡ r
@@ -35,13 +41,8 @@ same q r a b c d = λ i. record { class = a i; first = b i; second = c i; third 
 
 is-row : (q r : Row) → isRow q r ≡ true → q ≡ r
 is-row q r e =
-    let abc = and-left (eqb (q .class) (r .class) && eqb (q .first) (r .first) && eqb (q .second) (r .second)) (eqb (q .third) (r .third)) e in
-    let ab = and-left (eqb (q .class) (r .class) && eqb (q .first) (r .first)) (eqb (q .second) (r .second)) abc in
-    same q r
-    (eqb-true (q .class) (r .class) (and-left (eqb (q .class) (r .class)) (eqb (q .first) (r .first)) ab))
-    (eqb-true (q .first) (r .first) (and-right (eqb (q .class) (r .class)) (eqb (q .first) (r .first)) ab))
-    (eqb-true (q .second) (r .second) (and-right (eqb (q .class) (r .class) && eqb (q .first) (r .first)) (eqb (q .second) (r .second)) abc))
-    (eqb-true (q .third) (r .third) (and-right (eqb (q .class) (r .class) && eqb (q .first) (r .first) && eqb (q .second) (r .second)) (eqb (q .third) (r .third)) e))
+    let h = all-four (eqb (q .class) (r .class)) (eqb (q .first) (r .first)) (eqb (q .second) (r .second)) (eqb (q .third) (r .third)) e in
+    same q r (eqb-true _ _ (h .0)) (eqb-true _ _ (h .1)) (eqb-true _ _ (h .2)) (eqb-true _ _ (h .3))
 
 row-is : (q r : Row) → q ≡ r → isRow q r ≡ true
 row-is q r e =
@@ -50,28 +51,16 @@ row-is q r e =
 
 -- ---- the rows that the table answers for
 
-record Listed (r : Row) : Type 0 where
-  class : r .class < classCount
-  first : r .first ≤ lastVariant
-  second : r .second ≤ lastVariant
-  third : r .third ≤ lastVariant
-
-listed : (r : Row) → hasCell r ≡ true → Listed r
+listed : (r : Row) → hasCell r ≡ true → (r .class < classCount) × (r .first ≤ lastVariant) × (r .second ≤ lastVariant) × (r .third ≤ lastVariant)
 listed r e =
-    let abc = and-left (ltb (r .class) classCount && leb (r .first) lastVariant && leb (r .second) lastVariant) (leb (r .third) lastVariant) e in
-    let ab = and-left (ltb (r .class) classCount && leb (r .first) lastVariant) (leb (r .second) lastVariant) abc in
-    record {
-      class = ltb-true (r .class) classCount (and-left (ltb (r .class) classCount) (leb (r .first) lastVariant) ab);
-      first = leb-true (r .first) lastVariant (and-right (ltb (r .class) classCount) (leb (r .first) lastVariant) ab);
-      second = leb-true (r .second) lastVariant (and-right (ltb (r .class) classCount && leb (r .first) lastVariant) (leb (r .second) lastVariant) abc);
-      third = leb-true (r .third) lastVariant (and-right (ltb (r .class) classCount && leb (r .first) lastVariant && leb (r .second) lastVariant) (leb (r .third) lastVariant) e);
-    }
+    let h = all-four (ltb (r .class) classCount) (leb (r .first) lastVariant) (leb (r .second) lastVariant) (leb (r .third) lastVariant) e in
+    (ltb-true _ _ (h .0), leb-true _ _ (h .1), leb-true _ _ (h .2), leb-true _ _ (h .3))
 
 fit : (r : Row) → hasCell r ≡ true → VariantsFit r
-fit r h = let l = listed r h in (omega (arith, l .first), omega (arith, l .second), omega (arith, l .third))
+fit r h = let l = listed r h in (omega (arith, l .1), omega (arith, l .2), omega (arith, l .3))
 
 pub within : (r : Row) → hasCell r ≡ true → rowNumber r < numberCount
-within r h = let l = listed r h in omega (arith, l .class, l .first, l .second, l .third)
+within r h = let l = listed r h in omega (arith, l .0, l .1, l .2, l .3)
 
 -- a class that has rows is listed, and so is a variant that passes question 4
 class-listed : (class : ℕ) → hasRows (foldingOf class) ≡ true → ltb class classCount ≡ true
@@ -89,21 +78,11 @@ variant-listed inputs place variant = go (ltb place inputs)
     go false e = le-leb variant lastVariant (omega (arith, eqb-true variant 0 e))
 
 row-listed : (s : List ℕ) (at : ℕ) → isListed RowRole s at ≡ true → hasCell (rowAt s at) ≡ true
-row-listed s at h =
+row-listed s at e =
     let row = rowAt s at in
-    let folding = foldingOf (row .class) in
-    let inputs = inputCount folding in
-    let first = isVariant inputs 0 (row .first) in
-    let second = isVariant inputs 1 (row .second) in
-    let third = isVariant inputs 2 (row .third) in
-    let abc = and-left (hasRows folding && first && second) third h in
-    let ab = and-left (hasRows folding && first) second abc in
-    rw (
-      class-listed (row .class) (and-left (hasRows folding) first ab),
-      variant-listed inputs 0 (row .first) (and-right (hasRows folding) first ab),
-      variant-listed inputs 1 (row .second) (and-right (hasRows folding && first) second abc),
-      variant-listed inputs 2 (row .third) (and-right (hasRows folding && first && second) third h),
-    ) refl
+    let inputs = inputCount (foldingOf (row .class)) in
+    let h = all-four (hasRows (foldingOf (row .class))) (isVariant inputs 0 (row .first)) (isVariant inputs 1 (row .second)) (isVariant inputs 2 (row .third)) e in
+    rw (class-listed (row .class) (h .0), variant-listed inputs 0 (row .first) (h .1), variant-listed inputs 1 (row .second) (h .2), variant-listed inputs 2 (row .third) (h .3)) refl
 
 pub below : (v : ℕ) → ltb v (suc lastVariant) ≡ leb v lastVariant
 below v = ap isLe (compare·suc-suc v lastVariant)
@@ -137,12 +116,12 @@ decides q r (to, from) = go (isRow q r) refl
 -- y is the row x as it was read, and t whether the table answers for it
 module _ (before : List Row) {x y : Row} (e : y ≡ x) {t : Bool} (h : t ≡ hasCell y) {cells : List ℕ} (m : Cells before cells) where
   pub marks-row : t ≡ true → (t ≡ true → VariantsFit y) → {n : ℕ} → n ≡ rowNumber y → ((r : Row) → SameNumber y r) → {after : List ℕ} → Marks cells n after → Cells (before ++ (x ∷ [])) after
-  marks-row k fits {n} number alone s =
+  marks-row k fits {n} number law s =
       record {
         long = s .long ∙ m .long;
         marked = λ r l.
             s .numbers (rowNumber r)
-            ∙ ap₂ _||_ (m .marked r l) (ap (λ (i : ℕ). eqb i (rowNumber r)) number ∙ decides y r (alone r (fits k) (fit r l)) ∙ ap (λ (q : Row). isRow q r) e)
+            ∙ ap₂ _||_ (m .marked r l) (ap (λ (i : ℕ). eqb i (rowNumber r)) number ∙ decides y r (law r (fits k) (fit r l)) ∙ ap (λ (q : Row). isRow q r) e)
             ∙ sym (covers-snoc before x r);
       }
 
