@@ -1,4 +1,4 @@
--- Sets of numbers as bits in cells of 64.
+-- Sets of numbers as the bits of words.
 use Prim.Native.Nat.{ℕ, zero, suc, _+_, _-_, _*_, _/_, _%_, _^_, _<_}
 use native.Mathlib.Omega.{arith}
 use native.Mathlib.Decide.{ℕ-discrete, decLt}

@@ -1,12 +1,12 @@
 -- The numbers of rows, and the set of them.
-use Prim.Native.Nat.{ℕ, suc, _+_, _/_, _≤_, _<_, compare·suc-suc}
+use Prim.Native.Nat.{ℕ, _+_, _/_, _≤_, _<_}
 use native.Mathlib.Numerals.{add-one}
 use native.Mathlib.Omega.{arith}
 use mathlib.Core.Logic.{_↔_}
 use mathlib.Core.Path.{_≡_, refl, sym, ap, ap₂, subst, _∙_}
 use mathlib.Core.Bool.{Bool, true, false, cond, _&&_, _||_, or-assoc, or-false, false≢true}
 use mathlib.Core.List.{List, [], _∷_, _++_}
-use lib.Dec.{eqb, ltb, leb, isLe}
+use lib.Dec.{eqb, ltb, leb}
 use lib.ListN.{length, getD, take, replicate, length-replicate, List·getD-eq-default}
 use lib.Seq.{take-suc, take-all}
 use borrow.Author.Tests.{ltb-true, ltb-false, leb-true, le-leb, eqb-true, eq-eqb, ne-eqb}
@@ -83,9 +83,6 @@ row-listed s at e =
     let inputs = inputCount (foldingOf (row .class)) in
     let h = all-four (hasRows (foldingOf (row .class))) (isVariant inputs 0 (row .first)) (isVariant inputs 1 (row .second)) (isVariant inputs 2 (row .third)) e in
     rw (class-listed (row .class) (h .0), variant-listed inputs 0 (row .first) (h .1), variant-listed inputs 1 (row .second) (h .2), variant-listed inputs 2 (row .third) (h .3)) refl
-
-pub below : (v : ℕ) → ltb v (suc lastVariant) ≡ leb v lastVariant
-below v = ap isLe (compare·suc-suc v lastVariant)
 
 pub answers : (r : Row) {t : Bool} → t ≡ hasCell r
     → (t ≡ hasCell r) × (((s : List ℕ) (at : ℕ) → rowAt s at ≡ r → isListed RowRole s at ≡ true → t ≡ true) × (t ≡ true → VariantsFit r))

@@ -1,5 +1,7 @@
 -- `table::has_cell` meets its contract.
-use Rattle.table.proofs.Search.{below, answers}
+use lib.Dec.{leb·suc-suc}
+use Rattle.table.specs.Table.{lastVariant}
+use Rattle.table.proofs.Search.{answers}
 use borrow.Author.Needs.{needs}
 use Rattle.table.proofs.has_cell.Statement.{statement}
 use Rattle.table.proofs.has_cell.Tie as tie
@@ -25,9 +27,9 @@ returns c =
       c .before .before .wide2 .ensures,
       c .before .wide3 .ensures,
       c .wide4 .ensures,
-      below (k .first),
-      below (k .second),
-      below (k .third),
+      leb·suc-suc (k .first) lastVariant,
+      leb·suc-suc (k .second) lastVariant,
+      leb·suc-suc (k .third) lastVariant,
     ))
 
 pub has-cell-spec : {M : Type 1} → statement M
