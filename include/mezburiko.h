@@ -31,16 +31,18 @@ extern "C" {
 enum mezburiko_number {
     MEZBURIKO_ACCEPTED = 0,
     MEZBURIKO_INPUT_TOO_LONG = 1, /* more than 65,536 bytes; place 0 */
-    /* 2 to 8: the place is the offset of the record */
-    MEZBURIKO_UNKNOWN_KIND = 2,   /* the kind is not 01 to 0B */
+    /* 2 to 8, and 12: the place is the offset of the record */
+    MEZBURIKO_UNKNOWN_KIND = 2,   /* the kind is not 01 to 0C */
     MEZBURIKO_CUT_OFF = 3,        /* the input ends within the record */
-    MEZBURIKO_UNLISTED = 4,       /* a class, flag, port, variant or Bool byte that is not listed for the kind */
+    MEZBURIKO_UNLISTED = 4,       /* a class, flag, port, variant, Bool or text byte that is not listed for the kind */
     MEZBURIKO_OUT_OF_ORDER = 5,   /* the kind is below that of the record before */
     MEZBURIKO_MISSING_NODE = 6,   /* a node that is not there */
     MEZBURIKO_REPEATED = 7,       /* a second property of a node and port, or annihilator of a class */
     MEZBURIKO_TOO_MANY = 8,       /* one node, wire, property or row more than the limit */
     MEZBURIKO_ENDLESS = 9,        /* the rewriting of a wire goes round a circle; place: the first such wire record */
-    MEZBURIKO_NO_SPACE = 10       /* more than 4,096 rewritten wires, or a buffer too short; place 0 */
+    MEZBURIKO_NO_SPACE = 10,      /* more than 4,096 rewritten wires, or a buffer too short; place 0 */
+    /* 11 is no number of a refusal */
+    MEZBURIKO_ORDERED_TEXT = 12   /* a row of Less to GreaterOrEqual names text; asked of a record right after 4 */
 };
 
 /*

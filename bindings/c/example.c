@@ -1,6 +1,6 @@
 /*
- * Folds document 01's worked example, the empty graph and a graph that is refused, takes two whole roots, and prints
- * what comes of each.
+ * Folds document 01's worked example, a graph with a text, the empty graph and two graphs that are refused, takes two
+ * whole roots, and prints what comes of each.
  */
 #include <inttypes.h>
 #include <stdio.h>
@@ -17,6 +17,22 @@ static const uint8_t WORKED[] = {
     0x03, 0, 0, 0x0A, 2, 0, 0, 0, 0, 0, 0, 0, /* Value of 0: Int 2 */
     0x03, 1, 0, 0x03, 5, 0, 0, 0, 0, 0, 0, 0, /* InputB of 1: Int 5 */
     0x0A, 0x12, 1, 1, 0,                      /* row: Add of two Ints */
+};
+
+/* A Literal "denim", and whether it equals "denim". */
+static const uint8_t CLOTH[] = {
+    0x01, 0x01, 0x00,             /* node 0: Literal */
+    0x01, 0x06, 0x00,             /* node 1: Equal */
+    0x02, 0, 0, 0x00, 1, 0, 0x02, /* wire from 0 to InputA of 1 */
+    0x0A, 0x06, 8, 8, 0,          /* row: Equal of two texts */
+    0x0C, 0, 0, 0x0A, 5, 'd', 'e', 'n', 'i', 'm', 0, 0, 0, 0, 0, 0, 0, 0, 0, 0, 0, /* Value of 0: "denim" */
+    0x0C, 1, 0, 0x03, 5, 'd', 'e', 'n', 'i', 'm', 0, 0, 0, 0, 0, 0, 0, 0, 0, 0, 0, /* InputB of 1: "denim" */
+};
+
+/* A row that would order texts. */
+static const uint8_t ORDER[] = {
+    0x01, 0x08, 0x00,    /* node 0: Less */
+    0x0A, 0x08, 8, 8, 0, /* row: Less of two texts */
 };
 
 /* A Branch whose taken side leads back into it. */
@@ -47,6 +63,8 @@ static size_t record_length(uint8_t kind) {
     case 0x03: /* Int */
     case 0x04: /* Float */
         return 12;
+    case 0x0C: /* text */
+        return 21;
     case 0x15: /* planned Vector */
         return 27;
     case 0x06: /* Vector */
@@ -87,8 +105,10 @@ static void whole_root(const char *name, uint64_t n) {
 int main(void) {
     fold("worked example", WORKED, sizeof WORKED, answer, sizeof answer);
     fold("worked example, a byte too little", WORKED, sizeof WORKED, answer, 47);
+    fold("cloth's name", CLOTH, sizeof CLOTH, answer, sizeof answer);
     fold("empty graph", NULL, 0, NULL, 0);
     fold("circle", CIRCLE, sizeof CIRCLE, answer, sizeof answer);
+    fold("order of texts", ORDER, sizeof ORDER, answer, sizeof answer);
     whole_root("3000 steps by 4001", UINT64_C(3000) * 3000 + UINT64_C(4001) * 4001);
     whole_root("the largest number", UINT64_MAX);
     return 0;

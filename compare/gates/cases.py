@@ -1,5 +1,5 @@
-"""Gate cases for runs beside the Rust: every class from 6 on special operands, and Sqrt on many more; and Min, Max and Clamp by
-IEEE 754-2019.
+"""Gate cases for runs beside the Rust: every class from 6 on special operands, Sqrt on many more, and all but the order gates
+on texts; and Min, Max and Clamp by IEEE 754-2019.
 
 A case is the 100 bytes that `oracle gates` reads (docs/ORACLE.md): the class, then three operands of a variant byte and
 32 bytes of value. An answer is 33 bytes, an operand's form.
@@ -71,6 +71,10 @@ def floats(variant, *parts):
     return operand(variant, struct.pack('<%dd' % len(parts), *parts))
 
 
+def text(chars):
+    return operand(tables.TEXT.number, bytes([len(chars)]) + chars)
+
+
 UNWIRED, TRUE = operand(0), operand(3, b'\1')
 OPERANDS = (
     [UNWIRED]
@@ -84,6 +88,30 @@ OPERANDS = (
 ZEROS = [whole_number(0), floats(2, 0.0), floats(2, -0.0)]
 MORE = [operand(2, struct.pack('<Q', bits)) for bits in NEIGHBOURS]
 LIMITS = ZEROS + [floats(2, x) for x in (1.0, -1.0, *EXTREMES)] + MORE
+
+
+# ---- texts, and what they meet besides ----
+
+# False ones and what looks so; decimal forms and what looks so, the last three the first characters of longer ones; names.
+TEXTS = [text(chars) for chars in [
+    b'', b'0', b'false', b'False', b'00', b' 0', b'0 ', b'-0', b'7', b'07', b'+7', b'7.0', b'-7', b'9' * 16, b'-' + b'9' * 15,
+    b'1' + b'0' * 15, b'%.16s' % str(SMALLEST).encode(), b'%.16s' % str(LARGEST).encode(),
+    b'denim', b'denin', b'deni', b' ~' * 8,
+]]
+# Ints of 16 and 17 characters; 0, 7, -7 and both ends are among INTS.
+TEXT_INTS = [whole_number(n) for n in (10 ** 16 - 1, 10 ** 16, 10 ** 15, 1 - 10 ** 15, -10 ** 15)]
+# What texts meet in classes of three inputs.
+FEW = [UNWIRED, whole_number(1), floats(2, 1.0), TRUE, floats(4, 1.0, -2.0, 3.5), text(b''), text(b'1')]
+
+
+def has_text(case):
+    return any(given[0] == tables.TEXT.number for given in operands(case))
+
+
+def with_text(gate):
+    """A class on operands of which one is a text at least."""
+    chosen_from = FEW if input_count(gate) == 3 else TEXTS + TEXT_INTS + OPERANDS
+    return filter(has_text, of(gate, chosen_from))
 
 
 # ---- what Sqrt meets besides ----
@@ -169,11 +197,14 @@ def of(gate, chosen_from):
 
 
 def every():
-    """Every class on OPERANDS, Min, Max and Clamp on LIMITS too, and Sqrt on ROOTS; no case twice."""
+    """Every class on OPERANDS, all but the order gates with texts, Min, Max and Clamp on LIMITS too, and Sqrt on ROOTS; no case
+    twice."""
     for gate in range(6, len(tables.CLASSES)):
         yield from of(gate, OPERANDS)
         if gate in OPEN_ZEROS:
             yield from (case for case in of(gate, LIMITS) if not set(MORE).isdisjoint(operands(case)))
+        if gate not in tables.ORDER_GATES:
+            yield from with_text(gate)
     yield from of(SQRT, ROOTS)
 
 

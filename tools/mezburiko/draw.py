@@ -12,7 +12,7 @@ from .values import format_value
 MARGIN = 16
 NAME_WIDTH, TEXT_WIDTH = 7.3, 6.1   # of a letter, in the bold 12 px and the plain 10 px face
 ROW = 14
-LONGEST = 30                        # letters of a name or value that are shown
+LONGEST = 2 + 2 * tables.TEXT_BYTES  # letters of a name or value that are shown: of each text all
 
 STYLE = """
 text { font: 10px "DejaVu Sans Mono", Menlo, Consolas, monospace; fill: #222; }
@@ -132,7 +132,9 @@ def _document(name, parts):
         lines += ['<g transform="translate(%d %d)">' % (MARGIN, y), *part, '</g>']
         y += height + MARGIN
     head = ['<?xml version="1.0" encoding="UTF-8"?>',
-            '<svg xmlns="http://www.w3.org/2000/svg" width="%d" height="%d" viewBox="0 0 %d %d">' % (width, y, width, y),
+            # spaces of texts stay as many as they are
+            '<svg xmlns="http://www.w3.org/2000/svg" xml:space="preserve" width="%d" height="%d" viewBox="0 0 %d %d">' % (
+                width, y, width, y),
             '<title>%s</title>' % _text(name), '<style>%s</style>' % STYLE, '<defs>%s</defs>' % ARROW,
             '<rect width="100%" height="100%" fill="#fff"/>']
     return '\n'.join(head + lines + ['</svg>']) + '\n'

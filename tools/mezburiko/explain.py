@@ -25,7 +25,7 @@ def remedy(number):
 
 
 def of_refusal(refused):
-    """A refusal by questions 1 to 8."""
+    """A refusal by questions 1 to 8 and 12."""
     lines = heading(refused.number, refused.place)
     if refused.record:
         lines.append('  where:      %s: %s' % (refused.ordinal, refused.record.hex(' ').upper()))
@@ -33,7 +33,7 @@ def of_refusal(refused):
 
 
 def of_later_refusal(number, place, graph):
-    """A refusal of the folder itself, of a graph that passes questions 1 to 8."""
+    """A refusal of the folder itself, of a graph that passes questions 1 to 8 and 12."""
     lines = heading(number, place)
     if number == 9:
         wire = wire_at(graph, place)

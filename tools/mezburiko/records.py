@@ -1,9 +1,9 @@
-"""Graphs and answers as the records of document 01: reading them, with questions 1 to 8, and writing them."""
+"""Graphs and answers as the records of document 01: reading them, with questions 1 to 8 and 12, and writing them."""
 import struct
 from typing import NamedTuple
 
 from . import tables
-from .values import Value
+from .values import Value, is_text
 
 
 class Node(NamedTuple):
@@ -81,7 +81,8 @@ class Answer(NamedTuple):
 
 
 class Refused(Exception):
-    """A refusal by questions 1 to 8, with what was expected and found; `record` has the record's bytes, `ordinal` its place."""
+    """A refusal by questions 1 to 8 and 12, with what was expected and found; `record` has the record's bytes, `ordinal` its
+    place."""
 
     def __init__(self, number, place, expected, found, record=b'', ordinal=''):
         super().__init__('refused %d at %d' % (number, place))
@@ -101,18 +102,18 @@ def default_name(node, number):
 
 def encode(graph):
     """The records of a graph, kinds rising."""
-    records = [struct.pack(tables.NODE.format, tables.NODE.number, *node) for node in graph.nodes]
-    records += [struct.pack(tables.WIRE.format, tables.WIRE.number, *wire) for wire in graph.wires]
-    for kind in tables.PROPERTIES:
-        records += [struct.pack(kind.format, kind.number, p.node, p.port, *p.value.words)
-                    for p in graph.properties if p.value.variant is kind.variant]
-    records += [struct.pack(tables.ROW.format, tables.ROW.number, row.number_of_class, *row.variants) for row in graph.rows]
-    records += [bytes([tables.ANNIHILATOR.number, annihilator]) for annihilator in graph.annihilators]
-    return b''.join(records)
+    kinds = {kind.variant: kind for kind in tables.PROPERTIES}
+    records = [(tables.NODE, node) for node in graph.nodes]
+    records += [(tables.WIRE, wire) for wire in graph.wires]
+    records += [(kinds[p.value.variant], (p.node, p.port, *p.value.words)) for p in graph.properties]
+    records += [(tables.ROW, (row.number_of_class, *row.variants)) for row in graph.rows]
+    records += [(tables.ANNIHILATOR, (number_of_class,)) for number_of_class in graph.annihilators]
+    records.sort(key=lambda record: record[0].number)
+    return b''.join(struct.pack(kind.format, kind.number, *fields) for kind, fields in records)
 
 
 def decode(data):
-    """The graph that an input says; raises Refused with the first of questions 1 to 8 that is answered with no."""
+    """The graph that an input says; raises Refused with the first of questions 1 to 8 and 12 that is answered with no."""
     if len(data) > tables.LIMITS['INPUT']:
         raise Refused(1, 0, 'at most {:,} bytes'.format(tables.LIMITS['INPUT']), '{:,} bytes'.format(len(data)))
     reader = _Reader(data)
@@ -129,8 +130,12 @@ def listed(names, numbers):
     return ' or '.join('%d (%s)' % (number, names[number].name) for number in numbers)
 
 
+def found_byte(byte, offset):
+    return '%d (byte %02X at offset %d)' % (byte, byte, offset)
+
+
 class _Reader:
-    """Asks questions 2 to 8 of one record after the other. A question gives None, or what was expected and what was found."""
+    """Asks questions 2 to 8 and 12 of one record after the other. A question gives None, or what was expected and found."""
 
     def __init__(self, data):
         self.data, self.at, self.graph = data, 0, Graph()
@@ -139,8 +144,8 @@ class _Reader:
         self.offsets = {}
 
     def take(self):
-        questions = [(2, self._known_kind), (3, self._whole), (4, self._all_listed), (5, self._in_order),
-                     (6, self._nodes_present), (7, self._first), (8, self._within_limits)]
+        questions = [(2, self._known_kind), (3, self._whole), (4, self._all_listed), (12, self._no_order_of_texts),
+                     (5, self._in_order), (6, self._nodes_present), (7, self._first), (8, self._within_limits)]
         self.kind, self.fields = tables.GRAPH_KINDS.get(self.data[self.at]), ()
         for number, question in questions:
             fault = question()
@@ -160,7 +165,9 @@ class _Reader:
 
     def _known_kind(self):
         if self.kind is None:
-            return 'a kind from 01 (node) to 0B (annihilator)', '%02X' % self.data[self.at]
+            first, *_, last = tables.GRAPH_KINDS.values()
+            return ('a kind from %02X (%s) to %02X (%s)' % (first.number, first.name, last.number, last.name),
+                    '%02X' % self.data[self.at])
         return None
 
     def _whole(self):
@@ -178,7 +185,27 @@ class _Reader:
         for i, (field, number) in enumerate(zip(self.kind.fields, self.fields)):
             expected = self._expected(field, i)
             if expected is not None and number not in expected[0]:
-                return expected[1], '%d (byte %02X at offset %d)' % (number, number, self._offset_of(i))
+                return expected[1], found_byte(number, self._offset_of(i))
+        return self._all_characters() if self.kind is tables.TEXT_PROPERTY else None
+
+    def _all_characters(self):
+        *_, length, chars = self.fields
+        for i, byte in enumerate(chars):
+            at = self._offset_of(len(self.fields) - 1) + i
+            if i < length and byte not in tables.TEXT_CHARS:
+                return ('a character from %d (space) to %d (~)' % (tables.TEXT_CHARS[0], tables.TEXT_CHARS[-1]),
+                        found_byte(byte, at))
+            if i >= length and byte:
+                return '0 behind a text of %d character%s' % (length, '' if length == 1 else 's'), found_byte(byte, at)
+        return None
+
+    def _no_order_of_texts(self):
+        if self.kind is not tables.ROW or self.fields[0] not in tables.ORDER_GATES:
+            return None
+        for i, (field, number) in enumerate(zip(self.kind.fields, self.fields)):
+            if field == 'variant' and number == tables.TEXT.number:
+                return ('a variant other than %d (%s), as %s is for what has an order' % (
+                    number, tables.TEXT.name, tables.CLASSES[self.fields[0]].name), found_byte(number, self._offset_of(i)))
         return None
 
     def _expected(self, field, i):
@@ -192,6 +219,8 @@ class _Reader:
             return range(len(ports)), 'a port from ' + listed(tables.PORTS, range(len(ports)))
         if field == 'bool':
             return range(2), 'a Bool, 0 or 1'
+        if field == 'length':
+            return range(tables.TEXT_BYTES + 1), 'a length from 0 to %d' % tables.TEXT_BYTES
         if field == 'variant':
             node_class = tables.CLASSES[self.fields[0]]
             length = tables.row_length(node_class)
@@ -296,6 +325,8 @@ def _add_to_answer(answer, graph, kind, fields):
             raise NotAnAnswer('a known value out of order')
         if fields[1] != tables.VALUE:
             raise NotAnAnswer('a known value with port %d' % fields[1])
+        if kind is tables.TEXT_PROPERTY and not is_text(*fields[2:]):
+            raise NotAnAnswer('a known text that is none')
         answer.known[nodes[0]] = Value(kind.variant, fields[2:])
     elif kind.role == 'Fate':
         if nodes[0] != len(answer.fates) or answer.wires:

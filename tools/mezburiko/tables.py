@@ -137,6 +137,8 @@ CLASSES = tuple(Class(number, *entry) for number, entry in enumerate([
     ('MATH_SQRT', 'Sqrt', UNARY),
 ]))
 OTHER, LITERAL, MICROCHIP_INPUT, MICROCHIP_OUTPUT, SELECT, BRANCH = range(6)
+# the order gates, Less to GreaterOrEqual, whose rows name no text
+ORDER_GATES = range(8, 12)
 LOGICAL_AND, LOGICAL_OR = 12, 13
 # the classes that may have an annihilator record, each with the Bool that settles it
 ANNIHILATORS = {LOGICAL_AND: False, LOGICAL_OR: True}
@@ -150,8 +152,9 @@ VARIANTS = tuple(Variant(number, *entry) for number, entry in enumerate([
     ('ROTATOR', 'Rotator', ('pitch', 'yaw', 'roll')),
     ('QUAT', 'Quat', ('x', 'y', 'z', 'w')),
     ('COLOR', 'Color', ('r', 'g', 'b', 'a')),
+    ('TEXT', 'Text', ('text',)),
 ]))
-UNWIRED, INT, FLOAT, BOOL, VECTOR, ROTATOR, QUAT, COLOR = VARIANTS
+UNWIRED, INT, FLOAT, BOOL, VECTOR, ROTATOR, QUAT, COLOR, TEXT = VARIANTS
 ROW_VARIANTS = 3
 
 # the bits of a node's flags byte; every other bit is 0
@@ -159,12 +162,19 @@ FLAGS = {'NOFOLD': 0x01}
 NOFOLD = FLAGS['NOFOLD']
 LISTED_FLAGS = 0x01
 
+# how many bytes a text has at most; its record has so many, and 0 for those that it does not use
+TEXT_BYTES = 16
+# the bytes of a text: space to ~
+TEXT_CHARS = range(32, 127)
+
 # the struct code of each field; a float stands as its bits
-FIELD_CODES = {'class': 'B', 'flags': 'B', 'node': 'H', 'port': 'B', 'variant': 'B', 'int': 'q', 'float': 'Q', 'bool': 'B'}
+FIELD_CODES = {'class': 'B', 'flags': 'B', 'node': 'H', 'port': 'B', 'variant': 'B', 'int': 'q', 'float': 'Q', 'bool': 'B',
+               'length': 'B', 'chars': '%ds' % TEXT_BYTES}
 
 
 def _value_fields(variant):
-    return ('int',) if variant is INT else ('bool',) if variant is BOOL else ('float',) * len(variant.parts)
+    fields = {INT: ('int',), BOOL: ('bool',), TEXT: ('length', 'chars')}
+    return fields.get(variant, ('float',) * len(variant.parts))
 
 
 def _property(number, variant):
@@ -178,15 +188,16 @@ def _literal(number, variant):
 
 NODE = Kind(0x01, 'NODE', 'node', 'Node', ('class', 'flags'))
 WIRE = Kind(0x02, 'WIRE', 'wire', 'Wire', ('node', 'port', 'node', 'port'))
-PROPERTIES = tuple(_property(0x03 + i, variant) for i, variant in enumerate(VARIANTS[1:]))
+TEXT_PROPERTY = _property(0x0C, TEXT)
+PROPERTIES = (*(_property(0x03 + i, variant) for i, variant in enumerate(VARIANTS[1:COLOR.number + 1])), TEXT_PROPERTY)
 ROW = Kind(0x0A, 'ROW', 'row', 'Row', ('class',) + ('variant',) * ROW_VARIANTS)
 ANNIHILATOR = Kind(0x0B, 'ANNIHILATOR', 'annihilator', 'Annihilator', ('class',))
 KEPT = Kind(0x10, 'KEPT', 'kept', 'Fate', ('node',))
 REMOVED = Kind(0x11, 'REMOVED', 'removed', 'Fate', ('node',))
 LITERALS = tuple(_literal(0x12 + i, variant) for i, variant in enumerate(VARIANTS[1:5]))
 
-# the kinds of records of a graph, and those of an answer: its known values are the properties' kinds
-GRAPH_KINDS = {kind.number: kind for kind in (NODE, WIRE, *PROPERTIES, ROW, ANNIHILATOR)}
+# the kinds of records of a graph in their order, and those of an answer: its known values are the properties' kinds
+GRAPH_KINDS = {kind.number: kind for kind in sorted((NODE, WIRE, *PROPERTIES, ROW, ANNIHILATOR))}
 FATE_KINDS = {kind.number: kind for kind in (KEPT, REMOVED, *LITERALS)}
 
 LIMITS = {'INPUT': 65_536, 'NODES': 1_024, 'WIRES': 4_096, 'PROPERTIES': 2_048, 'ROWS': 1_024}
@@ -199,14 +210,16 @@ ANSWER_BYTES = 65_536
 REFUSALS = {refusal.number: refusal for refusal in [
     Refusal(1, 'the input is longer than 65,536 bytes',
             'divide the graph in two, or leave out nodes, wires and rows that nothing needs'),
-    Refusal(2, 'a record begins with a byte that is no kind of record (01 to 0B)',
+    Refusal(2, 'a record begins with a byte that is no kind of record (01 to 0C)',
             'check that the file holds graph records; the record before may be too long or too short'),
     Refusal(3, 'the input ends inside a record',
             'store or send the whole file again: its end is missing'),
-    Refusal(4, 'a class, flag, port, variant or Bool byte is not one that document 01 lists',
+    Refusal(4, 'a class, flag, port, variant or Bool byte, or the length or a byte of a text, is not one that document 01 lists',
             'give that field a listed value'),
+    Refusal(12, 'a row of Less, LessOrEqual, Greater or GreaterOrEqual names Text',
+            'leave the row out: texts have no order'),
     Refusal(5, 'a record stands after one of a higher kind',
-            'put the records in the order of their kinds: nodes, wires, Int to Color properties, rows, annihilators'),
+            'put the records in the order of their kinds: nodes, wires, Int to Color properties, rows, annihilators, texts'),
     Refusal(6, 'a record names a node that is not there',
             'add the node, or correct the number: nodes count from 0'),
     Refusal(7, 'a property of the same node and port, or an annihilator of the same class, stands before',
@@ -218,7 +231,7 @@ REFUSALS = {refusal.number: refusal for refusal in [
     Refusal(10, 'the answer has more than 4,096 wires, or does not fit its buffer',
             'lead fewer wires into Branches whose taken side has many wires, or lend a larger buffer'),
 ]}
-# those of a graph that passes questions 1 to 8
+# those of a graph that passes decoding
 LATER_REFUSALS = (9, 10)
 
 
@@ -267,6 +280,7 @@ def _rust_arrays():
                       ('&%s' % list(c.folding.inputs) for c in CLASSES))
     yield _rust_array('ROW_LENGTHS', 'How many variants a row of each class has; 0 where the class has no rows.', 'usize',
                       (row_length(c) for c in CLASSES))
+    yield _rust_array('ORDER_GATES', 'The order gates, whose rows name no text.', 'u8', ORDER_GATES)
     yield _rust_array('ANNIHILATORS', 'Classes that may have an annihilator, with the Bool that settles them.',
                       '(u8, bool)', ('(%d, %s)' % (c, str(b).lower()) for c, b in ANNIHILATORS.items()))
 

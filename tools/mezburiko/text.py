@@ -10,7 +10,8 @@
     annihilator LogicalAnd
 
 Values: 200 an Int (0x1F too), 2.5 a Float (inf, -inf, nan and nan(0x7FF8000000000001) too), true and false,
-(1.0, 2.0, 3.0) a Vector, Rotator(..) and Quat(..) and Color(..) with three, four and four parts.
+(1.0, 2.0, 3.0) a Vector, Rotator(..) and Quat(..) and Color(..) with three, four and four parts,
+"denim" a Text of at most 16 characters from space to ~, with \\" for a quote and \\\\ for a backslash.
 """
 import difflib
 import re
@@ -20,8 +21,10 @@ from . import tables
 from .records import Graph, Node, Property, Row, Wire, encode
 from .values import BadValue, format_value, read_value
 
-TOKEN = re.compile(r'\s*(?:(#.*)|(->|[-+]?\.?\d[\w.]*(?:(?<=[eE])[-+]\d\w*)?|-inf\b|[^\W\d]\w*|[:=.(),])|(\S))')
+TOKEN = re.compile(r'\s*(?:(#.*)|(->|[-+]?\.?\d[\w.]*(?:(?<=[eE])[-+]\d\w*)?|-inf\b|[^\W\d]\w*|[:=.(),]'
+                   r'|"(?:[^"\\]|\\.)*")|(\S))')
 NAME = re.compile(r'[^\W\d]\w*')
+UNCLOSED = '"'
 WORDS = ('row', 'annihilator')
 LONGEST_LINE = 100
 
@@ -60,16 +63,25 @@ class _Line:
 
     def __init__(self, text):
         self.tokens, self.columns, self.at = [], [], 0
+        end = 0
         for match in TOKEN.finditer(text):
-            if match.group(3):
-                raise _Stop(match.start(3) + 1, "'%s' has no meaning here" % match.group(3))
-            if match.group(2):
-                self.tokens.append(match.group(2))
-                self.columns.append(match.start(2) + 1)
-        self.columns.append(len(text.split('#')[0].rstrip()) + 1)
+            token = match.group(2) or match.group(3)
+            if match.group(3) and token != UNCLOSED:
+                raise _Stop(match.start(3) + 1, "'%s' has no meaning here" % token)
+            if token:
+                end = match.end()
+                self.tokens.append(token)
+                self.columns.append(end - len(token) + 1)
+            if token == UNCLOSED:
+                break
+        self.columns.append(end + 1)
 
     def peek(self):
-        return self.tokens[self.at] if self.at < len(self.tokens) else ''
+        """The token at the front; the text that an unclosed quote begins is none."""
+        token = self.tokens[self.at] if self.at < len(self.tokens) else ''
+        if token == UNCLOSED:
+            self.stop('this quote is not closed on its line')
+        return token
 
     @property
     def column(self):
@@ -100,11 +112,13 @@ class _Line:
         return entries[self.name('a ' + wanted)[0]]
 
     def value(self):
+        self.peek()
         try:
             value, used = read_value(self.tokens[self.at:])
         except BadValue as bad:
             self.at = min(self.at + bad.part, len(self.tokens))
-            self.stop(str(bad))
+            self.peek()
+            raise _Stop(self.column + bad.within, str(bad)) from None
         self.at += used
         return value
 
@@ -208,10 +222,10 @@ class _Parser:
         if not length:
             raise _Stop(column, 'no row is for %s' % node_class.name)
         line.take('(')
-        variants = [line.entry(tables.VARIANTS, 'variant').number]
+        variants = [self._read_variant(line, node_class)]
         while line.peek() == ',':
             line.take(',')
-            variants.append(line.entry(tables.VARIANTS, 'variant').number)
+            variants.append(self._read_variant(line, node_class))
         if len(variants) != length:
             raise _Stop(column, 'a row of %s has %d variant%s, not %d' % (
                 node_class.name, length, '' if length == 1 else 's', len(variants)))
@@ -219,6 +233,13 @@ class _Parser:
         self._count(self.graph.rows, 'ROWS', column)
         padding = (tables.UNWIRED.number,) * (tables.ROW_VARIANTS - length)
         self.graph.rows.append(Row(node_class.number, tuple(variants) + padding))
+
+    def _read_variant(self, line, node_class):
+        column = line.column
+        variant = line.entry(tables.VARIANTS, 'variant')
+        if variant is tables.TEXT and node_class.number in tables.ORDER_GATES:
+            raise _Stop(column, 'no row of %s names Text: texts have no order' % node_class.name)
+        return variant.number
 
     def _read_annihilator(self, line):
         column = line.column

@@ -10,20 +10,23 @@ STANDARD_NAN = 0x7FF8000000000000
 MIN_INT, MAX_INT = -2**63, 2**63 - 1
 # beyond this a whole number need not be a float
 MAX_EXACT = 2**53
+# the texts that count as false
+FALSE_TEXTS = ('', '0', 'false')
 
 
 class Value(NamedTuple):
-    """`words` are the numbers of a record's body: an Int as a signed number, a Bool as 0 or 1, a float as its bits."""
+    """`words` are the fields of a record's body: an Int as a signed number, a Bool as 0 or 1, a float as its bits, a text as
+    its length and its bytes with those that it does not use."""
     variant: tables.Variant
     words: tuple
 
 
 class BadValue(Exception):
-    """Text that is no value; `part` is the number of the token at fault."""
+    """Text that is no value; `part` is the number of the token at fault, `within` that of its character at fault."""
 
-    def __init__(self, message, part=0):
+    def __init__(self, message, part=0, within=0):
         super().__init__(message)
-        self.part = part
+        self.part, self.within = part, within
 
 
 def float_of(bits):
@@ -42,8 +45,32 @@ def format_float(bits):
     return repr(number)
 
 
+def text_value(characters):
+    """A text as a value; the characters are those that a text may have."""
+    return Value(tables.TEXT, (len(characters), characters.encode('ascii').ljust(tables.TEXT_BYTES, b'\0')))
+
+
+def characters_of(value):
+    """The characters of a text."""
+    length, chars = value.words
+    return chars[:length].decode('ascii')
+
+
+def is_text(length, chars):
+    """Whether the fields of a record say a text."""
+    used, rest = chars[:length], chars[length:]
+    return length <= tables.TEXT_BYTES and all(byte in tables.TEXT_CHARS for byte in used) and not any(rest)
+
+
+def format_text(characters):
+    """A text in quotes."""
+    return '"%s"' % re.sub(r'["\\]', r'\\\g<0>', characters)
+
+
 def format_value(value):
     variant, words = value
+    if variant is tables.TEXT:
+        return format_text(characters_of(value))
     if variant is tables.INT:
         return str(words[0])
     if variant is tables.BOOL:
@@ -64,7 +91,7 @@ def is_true(value):
     if value.variant is tables.FLOAT:
         number = float_of(value.words[0])
         return math.isfinite(number) and number != 0
-    return False
+    return value.variant is tables.TEXT and characters_of(value) not in FALSE_TEXTS
 
 
 def read_value(tokens):
@@ -74,10 +101,14 @@ def read_value(tokens):
     variant = _composite(tokens)
     if variant is not None:
         return _read_composite(variant, tokens)
+    if tokens[0][0] == '"':
+        return text_value(_read_text(tokens[0])), 1
     if tokens[0] in ('true', 'false'):
         return Value(tables.BOOL, (int(tokens[0] == 'true'),)), 1
     if re.fullmatch(r'[-+]?(\d+|0[xX]\w*)', tokens[0]):
         return Value(tables.INT, (_read_int(tokens[0]),)), 1
+    if re.fullmatch(r'[^\W\d]\w*', tokens[0]) and tokens[0] not in ('nan', 'inf'):
+        raise BadValue("'%s' is not a value; a text stands in quotes" % tokens[0])
     bits, used = _read_float(tokens)
     return Value(tables.FLOAT, (bits,)), used
 
@@ -111,6 +142,26 @@ def _part(tokens, at):
         return _read_float(tokens)
     except BadValue as bad:
         raise BadValue(str(bad), at + bad.part) from None
+
+
+def _read_text(token):
+    """The characters of a text in quotes."""
+    characters = []
+    for match in re.finditer(r'\\?(.)', token[1:-1]):
+        written, character = match.group(0), match.group(1)
+        if len(written) > 1 and character not in '"\\':
+            raise BadValue("no escape is '%s': there are \\\" and \\\\" % printed(written), within=1 + match.start())
+        if ord(character) not in tables.TEXT_CHARS:
+            raise BadValue("'%s' is not for texts: they have only space to ~" % printed(character), within=1 + match.start())
+        characters.append(character)
+    if len(characters) > tables.TEXT_BYTES:
+        raise BadValue('a text has at most %d characters, and this one %d' % (tables.TEXT_BYTES, len(characters)))
+    return ''.join(characters)
+
+
+def printed(text):
+    """Text for a message: what cannot be printed stands as its escape in Python."""
+    return ''.join(character if character.isprintable() else repr(character)[1:-1] for character in text)
 
 
 def _read_int(text):

@@ -68,7 +68,7 @@ pub struct Folded {
 pub struct Refusal {
     /// Why.
     pub reason: Reason,
-    /// The offset of the record in the input, for [`Reason::UnknownKind`] to [`Reason::Endless`]; else 0.
+    /// The offset of the record in the input; 0 for [`Reason::InputTooLong`] and [`Reason::NoSpace`].
     pub place: usize,
 }
 
@@ -93,11 +93,11 @@ impl Error for Refusal {}
 pub enum Reason {
     /// The input has more than [`MAX_INPUT`] bytes.
     InputTooLong = 1,
-    /// The record's kind is not 01 to 0B.
+    /// The record's kind is not 01 to 0C.
     UnknownKind = 2,
     /// The input ends within the record.
     CutOff = 3,
-    /// A class, flag, port, variant or Bool byte is not listed for the record's kind.
+    /// A class, flag, port, variant or Bool byte, or a text's length or byte, is not listed for the record's kind.
     Unlisted = 4,
     /// The record's kind is below that of the one before.
     OutOfOrder = 5,
@@ -111,10 +111,13 @@ pub enum Reason {
     Endless = 9,
     /// More than [`MAX_WIRES`] rewritten wires, or an answer that is longer than the buffer.
     NoSpace = 10,
+    /// A row of Less, LessOrEqual, Greater or GreaterOrEqual names text, which has no order. It is asked of a record right
+    /// after [`Reason::Unlisted`]; 11 is the number of no reason.
+    OrderedText = 12,
 }
 
 impl Reason {
-    const ALL: [Reason; 10] = [
+    const ALL: [Reason; 11] = [
         Reason::InputTooLong,
         Reason::UnknownKind,
         Reason::CutOff,
@@ -125,6 +128,7 @@ impl Reason {
         Reason::TooMany,
         Reason::Endless,
         Reason::NoSpace,
+        Reason::OrderedText,
     ];
 
     /// Document 01's number.
@@ -155,6 +159,7 @@ impl fmt::Display for Reason {
             Reason::NoSpace => {
                 "there are too many rewritten wires, or the answer is longer than the buffer"
             }
+            Reason::OrderedText => "the row names text for an order gate, and text has no order",
         })
     }
 }

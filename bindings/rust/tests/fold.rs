@@ -11,6 +11,13 @@ const WORKED: &str = "010100 011200 010000 02000000010002 02010000020002 0300000
 const WORKED_ANSWER: &str = "0300000A0200000000000000 0301000A0700000000000000 100000 1201000700000000000000 100200 \
                              02010000020002";
 
+/// Literals "denim" and 407, and Equals of them with "denim" and "407".
+const CLOTH: &str = "010100 010600 010100 010600 02000000010002 02020000030002 0302000A9701000000000000 \
+                     0A06080800 0A06010800 0C00000A0564656E696D0000000000000000000000 \
+                     0C0100030564656E696D0000000000000000000000 0C0300030334303700000000000000000000000000";
+const CLOTH_ANSWER: &str = "0C00000A0564656E696D0000000000000000000000 0501000A01 0302000A9701000000000000 0503000A01 \
+                            100000 14010001 100200 14030001";
+
 fn bytes(hex: &str) -> Vec<u8> {
     let digits: Vec<u8> = hex
         .bytes()
@@ -19,6 +26,9 @@ fn bytes(hex: &str) -> Vec<u8> {
     let byte = |pair: &[u8]| u8::from_str_radix(str::from_utf8(pair).unwrap(), 16).unwrap();
     digits.chunks(2).map(byte).collect()
 }
+
+/// Document 01's numbers of refusals.
+const NUMBERS: [u8; 11] = [1, 2, 3, 4, 5, 6, 7, 8, 9, 10, 12];
 
 /// A buffer in which every byte differs from its neighbours.
 fn painted(length: usize) -> Vec<u8> {
@@ -55,6 +65,11 @@ fn refused_inputs() -> Vec<(Vec<u8>, Reason, usize)> {
             13,
         ),
         (bytes(&many), Reason::NoSpace, 0),
+        (
+            bytes("010000 0A08010100 0A0B010800"),
+            Reason::OrderedText,
+            8,
+        ),
     ]
 }
 
@@ -100,6 +115,18 @@ fn worked_example() {
 }
 
 #[test]
+fn texts() {
+    assert_eq!(fold_to_vec(&bytes(CLOTH)), Ok((bytes(CLOTH_ANSWER), 4)));
+    // the length is beyond 16
+    let long = bytes("010100 0C00000A1161616161616161616161616161616161");
+    let refusal = Refusal {
+        reason: Reason::Unlisted,
+        place: 3,
+    };
+    assert_eq!(fold_to_vec(&long), Err(refusal));
+}
+
+#[test]
 fn empty_input() {
     let nothing = Folded { length: 0, pops: 0 };
     assert_eq!(fold(&[], &mut []), Ok(nothing));
@@ -112,14 +139,14 @@ fn empty_input() {
 
 #[test]
 fn refusals() {
-    for (number, (input, reason, place)) in (1..).zip(refused_inputs()) {
+    for (number, (input, reason, place)) in NUMBERS.into_iter().zip(refused_inputs()) {
         let mut out = painted(MAX_ANSWER);
         assert_eq!(fold(&input, &mut out), Err(Refusal { reason, place }));
         assert_eq!(reason.number(), number);
         assert!(out == painted(MAX_ANSWER), "{reason:?} touched the buffer");
         assert_eq!(fold_to_vec(&input), Err(Refusal { reason, place }));
     }
-    assert_eq!(refused_inputs().len(), 10);
+    assert_eq!(refused_inputs().len(), NUMBERS.len());
 }
 
 #[test]
@@ -187,11 +214,11 @@ fn threads() {
 fn reasons() {
     let named: Vec<Reason> = (0..=u8::MAX).filter_map(Reason::from_number).collect();
     let numbers: Vec<u8> = named.iter().map(|reason| reason.number()).collect();
-    assert_eq!(numbers, (1..=10).collect::<Vec<u8>>());
+    assert_eq!(numbers, NUMBERS);
     let mut words: Vec<String> = named.iter().map(Reason::to_string).collect();
     words.sort();
     words.dedup();
-    assert_eq!(words.len(), 10);
+    assert_eq!(words.len(), NUMBERS.len());
     let error: Box<dyn Error> = fold(&[0], &mut []).unwrap_err().into();
     assert_eq!(
         error.to_string(),

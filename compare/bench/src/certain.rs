@@ -1,10 +1,12 @@
-//! Certain small graphs of gates: zeros whose sign the Rust leaves open, Ints around and beyond 2^53, and roots; and gates
-//! whose own row is the one that is missing, or comes twice.
-use crate::records::{Graph, LAST_CLASS, class, port, variant};
+//! Certain small graphs of gates: zeros whose sign the Rust leaves open, Ints around and beyond 2^53, roots, and texts; and
+//! gates whose own row is the one that is missing, or comes twice.
+mod texts;
+
+use crate::records::{Graph, LAST_CLASS, VARIANTS, class, orders_text, port, variant};
 use crate::tables::INPUT_PORTS;
 
 pub fn all() -> Vec<Vec<u8>> {
-    [zeros(), long_ints(), roots()].concat()
+    [zeros(), long_ints(), roots(), texts::all()].concat()
 }
 
 /// Min, Max and Clamp of every two or three zeros: Int 0, 0.0 and -0.0.
@@ -77,10 +79,10 @@ pub fn rows() -> Vec<Vec<u8>> {
 /// Every row that a class may have.
 fn all_rows(class: u8) -> Vec<[u8; 4]> {
     let inputs = INPUT_PORTS[usize::from(class)].len() as u32;
-    let variants = usize::from(variant::COLOR) + 1;
-    let digit = |number: usize, place: u32| (number / variants.pow(place) % variants) as u8;
+    let digit = |number: usize, place: u32| (number / VARIANTS.pow(place) % VARIANTS) as u8;
     let row = |number| [class, digit(number, 0), digit(number, 1), digit(number, 2)];
-    (0..variants.pow(inputs)).map(row).collect()
+    let rows = (0..VARIANTS.pow(inputs)).map(row);
+    rows.filter(|&row| !orders_text(row)).collect()
 }
 
 /// Ints up to 2^53, and beyond it such as are floats, lie half way between two, or beside one.

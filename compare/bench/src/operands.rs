@@ -1,6 +1,7 @@
 //! Values at random, with the special ones often.
 use crate::records::variant;
 use crate::rng::Rng;
+use crate::texts;
 
 const INTS: [i64; 24] = [
     0,
@@ -91,6 +92,7 @@ pub fn rich_value(rng: &mut Rng, variant: u8) -> Vec<u8> {
     match variant {
         variant::INT => int(rng).to_le_bytes().to_vec(),
         variant::BOOL => vec![rng.below(2) as u8],
+        variant::TEXT => texts::value(&texts::any(rng)),
         _ => {
             let parts = FLOAT_PARTS[usize::from(variant)];
             let floats = (0..parts).flat_map(|_| float(rng).to_le_bytes());
@@ -100,7 +102,7 @@ pub fn rich_value(rng: &mut Rng, variant: u8) -> Vec<u8> {
 }
 
 /// Special Ints and those beside them, small ones, powers of two, long ones, and any.
-fn int(rng: &mut Rng) -> i64 {
+pub fn int(rng: &mut Rng) -> i64 {
     match rng.below(14) {
         0..4 => rng.pick(&INTS).wrapping_add(rng.below(3) as i64 - 1),
         4..6 => rng.below(21) as i64 - 10,

@@ -6,7 +6,7 @@ use wirescript::lower::fold::harness::{self, Folded, Rewriting};
 /// A graph as the original's data, for one fold.
 pub struct Prepared(Graph);
 
-/// Of an input that questions 1 to 8 accept.
+/// Of an input that questions 1 to 8 and 12 accept.
 pub fn prepare(input: &[u8]) -> Prepared {
     Prepared(graph::read(input))
 }

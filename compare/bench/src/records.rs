@@ -1,9 +1,39 @@
 //! Graphs as document 01's records.
 
-use crate::tables::CLASS_NAMES;
+use crate::tables::{CLASS_NAMES, ORDER_GATES, RECORD_LENGTHS, VARIANT_NAMES};
 pub use crate::tables::{class, flag, kind, limit, port, variant};
 
 pub const LAST_CLASS: u8 = CLASS_NAMES.len() as u8 - 1;
+pub const VARIANTS: usize = VARIANT_NAMES.len();
+/// What a property's record has before its value: kind, node and port.
+pub const HEAD: usize = 4;
+/// The bytes of a text behind its length, used or not.
+pub const TEXT_BYTES: usize = RECORD_LENGTHS[kind::TEXT as usize] - HEAD - 1;
+
+/// The kind of a property or known value of a variant.
+pub fn kind_of(variant: u8) -> u8 {
+    match variant {
+        variant::TEXT => kind::TEXT,
+        _ => variant - variant::INT + kind::INT,
+    }
+}
+
+/// The variant of a property or known value of a kind.
+pub fn variant_of(kind: u8) -> u8 {
+    match kind {
+        kind::TEXT => variant::TEXT,
+        _ => kind - kind::INT + variant::INT,
+    }
+}
+
+pub fn is_property(kind: u8) -> bool {
+    matches!(kind, kind::INT..=kind::COLOR | kind::TEXT)
+}
+
+/// Whether a row is one of an order gate that names text, which question 12 refuses.
+pub fn orders_text(row: [u8; 4]) -> bool {
+    ORDER_GATES.contains(&row[0]) && row[1..].contains(&variant::TEXT)
+}
 
 /// The parts of a graph; the property's value has the bytes that its variant asks for.
 #[derive(Clone, Default)]
@@ -24,6 +54,14 @@ pub struct Property {
     pub node: u16,
     pub port: u8,
     pub value: Vec<u8>,
+}
+
+impl Property {
+    fn record(&self) -> Vec<u8> {
+        let [low, high] = self.node.to_le_bytes();
+        let head = [kind_of(self.variant), low, high, self.port];
+        [&head, &self.value[..]].concat()
+    }
 }
 
 impl Graph {
@@ -94,18 +132,16 @@ impl Graph {
         }
         let mut properties: Vec<&Property> = self.properties.iter().collect();
         properties.sort_by_key(|property| property.variant);
-        for property in properties {
-            let [low, high] = property.node.to_le_bytes();
-            let mut record = vec![property.variant + 2, low, high, property.port];
-            record.extend(&property.value);
-            records.push(record);
-        }
+        let is_text = |property: &&Property| property.variant == variant::TEXT;
+        let (texts, others): (Vec<_>, Vec<_>) = properties.into_iter().partition(is_text);
+        records.extend(others.into_iter().map(Property::record));
         for &[class, a, b, c] in &self.rows {
             records.push(vec![kind::ROW, class, a, b, c]);
         }
         for &class in &self.annihilators {
             records.push(vec![kind::ANNIHILATOR, class]);
         }
+        records.extend(texts.into_iter().map(Property::record));
         records
     }
 }

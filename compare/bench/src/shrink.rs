@@ -1,6 +1,6 @@
 //! Makes an input on which a folder differs small: drops its records, many and then one by one, as long as it differs.
 use crate::alike::records;
-use crate::records::kind;
+use crate::records::{is_property, kind};
 use std::ops::Range;
 
 /// Inputs tried at most.
@@ -72,7 +72,7 @@ fn renumbered(records: &Records, dropped: &Range<usize>) -> Records {
 fn with_numbers(mut record: Vec<u8>, numbers: &[Option<u16>]) -> Option<Vec<u8>> {
     let fields: &[usize] = match record[0] {
         kind::WIRE => &[1, 4],
-        kind::INT..=kind::COLOR => &[1],
+        kind if is_property(kind) => &[1],
         _ => &[],
     };
     for &at in fields {

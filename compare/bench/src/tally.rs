@@ -1,13 +1,15 @@
 //! Counts what a run has met, and prints them.
 use crate::alike::{Zeros, has_zero, parts, records};
 use crate::oracle::{Said, Yardstick};
-use crate::records::{class, kind};
+use crate::records::{class, kind, variant, variant_of};
 use crate::table::{Table, whole};
 use crate::tables::{CLASS_NAMES, VARIANT_NAMES};
 use std::collections::{BTreeMap, HashSet};
 
-/// Outcomes by number: 0 for an answer, and refusals 1 to 10.
-type ByNumber = [usize; 11];
+/// Outcomes by number: 0 for an answer, and the refusals.
+type ByNumber = [usize; 13];
+/// The numbers that refusals have.
+const REFUSALS: [usize; 11] = [1, 2, 3, 4, 5, 6, 7, 8, 9, 10, 12];
 
 #[derive(Default)]
 pub struct Tally {
@@ -58,11 +60,11 @@ impl Tally {
             let of = |answer| parts(answer, true, Zeros::Signed);
             let other = usize::from(of(bytes) != of(signed));
             self.count(
-                14,
+                15,
                 "answers with zeros of open sign, held to the plain folder",
                 1,
             );
-            self.count(15, "of them with a sign that is not the oracle's", other);
+            self.count(16, "of them with a sign that is not the oracle's", other);
         }
     }
 
@@ -84,22 +86,26 @@ impl Tally {
         if bag {
             self.count(13, "answers held as bags of wires", 1);
         }
+        if records(input).any(|record| record[0] == kind::TEXT) {
+            self.count(14, "inputs with text", 1);
+        }
     }
 
     /// Counts a known value or a fate.
     fn add_node(&mut self, input: &[u8], record: &[u8]) {
         let node = usize::from(u16::from_le_bytes([record[1], record[2]]));
         let class = input[3 * node + 1];
-        let variant = |first: u8| VARIANT_NAMES[usize::from(record[0] - first) + 1];
+        let name = |variant: u8| VARIANT_NAMES[usize::from(variant)];
         match record[0] {
             kind::KEPT => self.count(3, "kept nodes", 1),
             kind::REMOVED if class == class::SELECT => self.count(4, "removed Selects", 1),
             kind::REMOVED => self.count(5, "removed Branches", 1),
             kind::LITERAL_INT.. => {
-                self.count(6, format!("literals, {}", variant(kind::LITERAL_INT)), 1);
+                let variant = record[0] - kind::LITERAL_INT + variant::INT;
+                self.count(6, format!("literals, {}", name(variant)), 1);
                 *self.literals.entry(class).or_default() += 1;
             }
-            _ => self.count(2, format!("known values, {}", variant(kind::INT)), 1),
+            kind => self.count(2, format!("known values, {}", name(variant_of(kind))), 1),
         }
     }
 
@@ -137,14 +143,15 @@ impl Tally {
     }
 
     fn print_families(&self) {
-        let numbers: Vec<String> = (1..=10).map(|number| number.to_string()).collect();
+        let numbers = REFUSALS.map(|number| number.to_string());
         let mut heads = vec!["inputs", "all", "accepted"];
         heads.extend(numbers.iter().map(String::as_str));
         let mut table = Table::new(&heads);
         let mut sums = ByNumber::default();
         let cells = |name: &str, counts: &ByNumber| {
             let mut cells = vec![name.to_string(), whole(counts.iter().sum())];
-            cells.extend(counts.iter().map(|&count| whole(count)));
+            cells.push(whole(counts[0]));
+            cells.extend(REFUSALS.map(|number| whole(counts[number])));
             cells
         };
         for (family, counts) in &self.families {

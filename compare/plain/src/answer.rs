@@ -3,7 +3,7 @@ use crate::Refusal;
 use crate::decode::Graph;
 use crate::listing::*;
 use crate::rewrite::{MAX_REWRITTEN, Rewriting, Writer};
-use crate::value::{Known, variant};
+use crate::value::Known;
 use crate::worklist::{Plan, Plans};
 
 /// What folding has found.
@@ -65,7 +65,7 @@ impl Found<'_> {
             let variant = self.known.variant(node);
             let [low, high] = (node as u16).to_le_bytes();
             if variant != variant::UNWIRED {
-                let head = [variant + 2, low, high, port::VALUE];
+                let head = [kind_of(variant), low, high, port::VALUE];
                 at += self.known.write(node, head, &mut out[at..]);
             }
             fate_at += match self.plans.plan[node] {

@@ -1,4 +1,4 @@
-//! Questions 1 to 8, asked in one pass over the input, which also fills the index.
+//! Questions 1 to 8 and 12, asked in one pass over the input, which also fills the index.
 //!
 //! Kinds rise, so the input is read in runs of one kind. A run ends at the first record that is not
 //! one more of its kind and in order; where no run takes the record up, `Reader::refusal` says why.
@@ -33,6 +33,7 @@ pub fn decode<'a>(input: &'a [u8], index: &mut Index) -> Result<Graph<'a>, Refus
     }
     reader.read_rows(index);
     reader.read_annihilators(index);
+    reader.read_properties(kind::TEXT, index);
     if reader.at < input.len() {
         return Err((reader.refusal(index), reader.at));
     }
@@ -141,7 +142,8 @@ impl<'a> Reader<'a> {
 
     fn read_rows(&mut self, index: &mut Index) {
         self.rows = self.read(MAX_ROWS, |_, &[kind, class, a, b, c]| {
-            let accepted = kind == kind::ROW && row_listed(class, a, b, c);
+            let accepted =
+                kind == kind::ROW && row_listed(class, a, b, c) && !orders_text(class, a, b);
             if accepted {
                 index.add_row(class, a, b, c);
             }
@@ -178,6 +180,8 @@ impl<'a> Reader<'a> {
         };
         if !listed(record) {
             4
+        } else if kind == kind::ROW && orders_text(record[1], record[2], record[3]) {
+            12
         } else if kind < self.kind_before() {
             5
         } else if !self.nodes_present(record) {
@@ -202,14 +206,14 @@ impl<'a> Reader<'a> {
     fn nodes_present(&self, record: &[u8]) -> bool {
         match record[0] {
             kind::WIRE => number(record, 1) < self.nodes && number(record, 4) < self.nodes,
-            kind::INT..=kind::COLOR => number(record, 1) < self.nodes,
+            kind::INT..=kind::COLOR | kind::TEXT => number(record, 1) < self.nodes,
             _ => true,
         }
     }
 
     fn repeats(&self, record: &[u8], index: &Index) -> bool {
         match record[0] {
-            kind::INT..=kind::COLOR => self.has_property(number(record, 1), record[3]),
+            kind::INT..=kind::COLOR | kind::TEXT => self.has_property(number(record, 1), record[3]),
             kind::ANNIHILATOR => index.has_annihilator(record[1]),
             _ => false,
         }
@@ -255,18 +259,39 @@ fn ports_listed(source: u8, target: u8) -> bool {
 
 #[inline(always)]
 fn property_listed(record: &[u8]) -> bool {
-    record[3] <= LAST_PORT && (record[0] != kind::BOOL || record[4] <= 1)
+    record[3] <= LAST_PORT
+        && match record[0] {
+            kind::BOOL => record[4] <= 1,
+            kind::TEXT => text_listed(&record[4..]),
+            _ => true,
+        }
+}
+
+/// Whether a text's used bytes are from space to ~, and the rest 0.
+fn text_listed(text: &[u8]) -> bool {
+    let (length, chars) = (usize::from(text[0]), &text[1..]);
+    length <= TEXT_BYTES
+        && chars[..length]
+            .iter()
+            .all(|char| (b' '..=b'~').contains(char))
+        && chars[length..].iter().all(|&char| char == 0)
 }
 
 fn row_listed(class: u8, a: u8, b: u8, c: u8) -> bool {
     let has_rows = class >= class::SELECT && usize::from(class) < CLASSES;
-    let variants = a <= LAST_VARIANT && b <= LAST_VARIANT && c <= LAST_VARIANT;
+    let variants = [a, b, c].iter().all(|&v| usize::from(v) < VARIANTS);
     let unused = match row_length(class) {
         1 => b == 0 && c == 0,
         2 => c == 0,
         _ => true,
     };
     has_rows && variants && unused
+}
+
+/// Question 12: whether a row of an order gate, which has two variants, names text.
+fn orders_text(class: u8, a: u8, b: u8) -> bool {
+    (class::LESS..=class::GREATER_OR_EQUAL).contains(&class)
+        && (a == variant::TEXT || b == variant::TEXT)
 }
 
 fn annihilator_listed(class: u8) -> bool {

@@ -1,6 +1,6 @@
 //! The gates' rules.
-use crate::listing::class;
-use crate::value::variant::{BOOL, COLOR, FLOAT, INT, QUAT, ROTATOR, UNWIRED, VECTOR};
+use crate::listing::variant::{BOOL, COLOR, FLOAT, INT, QUAT, ROTATOR, TEXT, UNWIRED, VECTOR};
+use crate::listing::{TEXT_BYTES, class};
 use crate::value::{Operand, Value};
 use std::cmp::Ordering;
 
@@ -67,8 +67,22 @@ impl Operand<'_> {
         match self.variant {
             INT | BOOL => self.word != 0,
             FLOAT => sanitize(self.float()) != 0.0,
+            TEXT => self.is_true_text(),
             _ => false,
         }
+    }
+
+    #[cold]
+    fn is_true_text(self) -> bool {
+        !FALSE_TEXTS.contains(&self.text())
+    }
+
+    /// The bytes of a text, 0 behind its length.
+    fn text(self) -> [u8; TEXT_BYTES] {
+        let [low, high, ..] = self.floats.map(|part| part.to_bits().to_le_bytes());
+        let mut text = [0; TEXT_BYTES];
+        text.as_chunks_mut().0.copy_from_slice(&[low, high]);
+        text
     }
 
     /// An Int or Bool as a whole number.
@@ -106,6 +120,7 @@ impl Operand<'_> {
     /// Whether a value equals the zero of its kind.
     fn is_zero(self) -> bool {
         match self.variant {
+            TEXT => self.word == 0,
             VECTOR.. => equal_parts(self, crate::value::UNWIRED),
             _ => !self.truthy(),
         }
@@ -122,8 +137,45 @@ fn equal(a: Operand, b: Operand) -> Option<bool> {
         (VECTOR, VECTOR) | (ROTATOR, ROTATOR) | (QUAT, QUAT) | (COLOR, COLOR) => {
             Some(equal_parts(a, b))
         }
+        (TEXT, _) | (_, TEXT) => equal_text(a, b),
         _ => None,
     }
+}
+
+#[cold]
+fn equal_text(a: Operand, b: Operand) -> Option<bool> {
+    match (a.variant, b.variant) {
+        (TEXT, TEXT) => Some(a.text() == b.text()),
+        (INT, TEXT) => Some(is_decimal(b, a.int())),
+        (TEXT, INT) => Some(is_decimal(a, b.int())),
+        _ => None,
+    }
+}
+
+/// The texts that are false: none, `0` and `false`, 0 behind them.
+const FALSE_TEXTS: [[u8; TEXT_BYTES]; 3] = [
+    [0; TEXT_BYTES],
+    *b"0\0\0\0\0\0\0\0\0\0\0\0\0\0\0\0",
+    *b"false\0\0\0\0\0\0\0\0\0\0\0",
+];
+/// The characters of the longest Int, the smallest.
+const LONGEST: usize = 20;
+
+/// Whether a text is the plain decimal form of an Int.
+fn is_decimal(text: Operand, n: i64) -> bool {
+    let mut form = [0; LONGEST];
+    let mut first = LONGEST;
+    let mut rest = n.unsigned_abs();
+    while rest > 0 || first == LONGEST {
+        first -= 1;
+        form[first] = b'0' + (rest % 10) as u8;
+        rest /= 10;
+    }
+    if n < 0 {
+        first -= 1;
+        form[first] = b'-';
+    }
+    text.text()[..text.word as usize] == form[first..]
 }
 
 /// Floats past a composite's own are 0.

@@ -1,7 +1,7 @@
 //! A plain Rust folder of document 01's graphs, written for speed: fixed arrays, no allocation, no
 //! unsafe code. It is what the proved folder's time is compared with.
 //!
-//! - `decode`: questions 1 to 8, and the index of the wires and properties in the same pass.
+//! - `decode`: questions 1 to 8 and 12, and the index of the wires and properties in the same pass.
 //! - `worklist`: trials in the order of the queue; `gates` has the gates' rules.
 //! - `rewrite`: the rewritten wires, in linear time for every graph.
 //! - `answer`: the answer's bytes.

@@ -14,12 +14,13 @@ pub mod kind {
     pub const COLOR: u8 = 0x09;
     pub const ROW: u8 = 0x0A;
     pub const ANNIHILATOR: u8 = 0x0B;
+    pub const TEXT: u8 = 0x0C;
     pub const KEPT: u8 = 0x10;
     pub const REMOVED: u8 = 0x11;
 }
 
 /// The length of each kind of record with its kind byte; 0 for what is no kind.
-pub const LENGTHS: [u8; 12] = [0, 3, 7, 12, 12, 5, 28, 28, 36, 36, 5, 2];
+pub const LENGTHS: [u8; 13] = [0, 3, 7, 12, 12, 5, 28, 28, 36, 36, 5, 2, 21];
 
 pub fn record_length(kind: u8) -> Option<usize> {
     match LENGTHS.get(usize::from(kind)) {
@@ -94,7 +95,41 @@ pub mod class {
 }
 
 pub const CLASSES: usize = class::SQRT as usize + 1;
-pub const LAST_VARIANT: u8 = 7;
+
+/// The variants in rows.
+pub mod variant {
+    pub const UNWIRED: u8 = 0;
+    pub const INT: u8 = 1;
+    pub const FLOAT: u8 = 2;
+    pub const BOOL: u8 = 3;
+    pub const VECTOR: u8 = 4;
+    pub const ROTATOR: u8 = 5;
+    pub const QUAT: u8 = 6;
+    pub const COLOR: u8 = 7;
+    pub const TEXT: u8 = 8;
+}
+
+pub const VARIANTS: usize = variant::TEXT as usize + 1;
+
+/// The kind of a value's record: its variant and 2, but for text.
+#[inline(always)]
+pub fn kind_of(variant: u8) -> u8 {
+    match variant {
+        variant::TEXT => kind::TEXT,
+        _ => variant + 2,
+    }
+}
+
+#[inline(always)]
+pub fn variant_of(kind: u8) -> u8 {
+    match kind {
+        kind::TEXT => variant::TEXT,
+        _ => kind - 2,
+    }
+}
+
+/// The bytes of a text behind its length, used or not.
+pub const TEXT_BYTES: usize = 16;
 
 /// How many variants a row of a class from 4 has: 1 for Select and Branch, else the gate's inputs.
 pub const fn row_length(class: u8) -> usize {

@@ -1,28 +1,17 @@
 //! Values, and their bytes in records.
-use crate::listing::{MAX_NODES, kind};
+use crate::listing::{MAX_NODES, kind, variant, variant_of};
 
-/// The variants in rows. The record of a value has its variant and 2 as its kind.
-pub mod variant {
-    pub const UNWIRED: u8 = 0;
-    pub const INT: u8 = 1;
-    pub const FLOAT: u8 = 2;
-    pub const BOOL: u8 = 3;
-    pub const VECTOR: u8 = 4;
-    pub const ROTATOR: u8 = 5;
-    pub const QUAT: u8 = 6;
-    pub const COLOR: u8 = 7;
-}
-
-/// The bytes of a value of each variant.
-const SIZES: [u8; 8] = [0, 8, 8, 1, 24, 24, 32, 32];
+/// The bytes of a value of each variant; of a text, its length is one. Zeros fill up a power of two.
+const SIZES: [u8; 16] = [0, 8, 8, 1, 24, 24, 32, 32, 17, 0, 0, 0, 0, 0, 0, 0];
 
 #[inline(always)]
 pub fn size(variant: u8) -> usize {
-    usize::from(SIZES[usize::from(variant) % 8])
+    usize::from(SIZES[usize::from(variant) % 16])
 }
 
 /// What a port reads: a variant and, of a scalar, its word of bits (a Bool is 0 or 1, `UNWIRED` is
-/// 0), of a composite its floats.
+/// 0), of a composite its floats, of a text its length as the word and its bytes as the bits of two
+/// floats.
 #[derive(Clone, Copy)]
 pub struct Operand<'a> {
     pub variant: u8,
@@ -102,9 +91,9 @@ impl Known {
         self.put_variant(node, variant)
     }
 
-    fn put_floats(&mut self, node: usize, variant: u8, floats: [f64; 4]) -> usize {
+    fn put_floats(&mut self, node: usize, variant: u8, word: u64, floats: [f64; 4]) -> usize {
         self.floats.as_chunks_mut().0[node % MAX_NODES] = floats;
-        self.put_variant(node, variant)
+        self.put_word(node, variant, word)
     }
 
     /// Gives an unknown node a value and gives the bytes of that.
@@ -114,7 +103,7 @@ impl Known {
             Value::Int(n) => self.put_word(node, variant::INT, n as u64),
             Value::Float(x) => self.put_word(node, variant::FLOAT, x.to_bits()),
             Value::Bool(b) => self.put_word(node, variant::BOOL, u64::from(b)),
-            Value::Vector([x, y, z]) => self.put_floats(node, variant::VECTOR, [x, y, z, 0.0]),
+            Value::Vector([x, y, z]) => self.put_floats(node, variant::VECTOR, 0, [x, y, z, 0.0]),
         }
     }
 
@@ -126,16 +115,19 @@ impl Known {
             floats,
         } = self.get(from);
         match variant {
-            variant::VECTOR.. => self.put_floats(node, variant, *floats),
+            variant::VECTOR.. => self.put_floats(node, variant, word, *floats),
             _ => self.put_word(node, variant, word),
         }
     }
 
     /// Gives an unknown node the value of a property record.
     pub fn put_property(&mut self, node: usize, record: &[u8]) -> usize {
-        let variant = record[0] - 2;
+        let variant = variant_of(record[0]);
         match variant {
-            variant::VECTOR.. => self.put_floats(node, variant, floats(record)),
+            variant::VECTOR.. => {
+                let (word, floats) = word_and_floats(record);
+                self.put_floats(node, variant, word, floats)
+            }
             _ => self.put_word(node, variant, scalar_word(record)),
         }
     }
@@ -161,24 +153,40 @@ impl Known {
     }
 }
 
-/// Writes a Bool or a composite, which fills `out`.
+// A Bool and a text begin with one byte, their word. Floats are behind it, or alone.
+
+/// Writes a Bool, a composite or a text, which fills `out`.
 fn write_rare(out: &mut [u8], word: u64, floats: &[f64; 4]) {
-    if let [byte] = out {
+    let (first, parts) = out.split_at_mut(out.len() % 8);
+    if let [byte] = first {
         *byte = word as u8;
     }
-    for (bytes, part) in out.as_chunks_mut::<8>().0.iter_mut().zip(floats) {
+    for (bytes, part) in parts.as_chunks_mut().0.iter_mut().zip(floats) {
         *bytes = part.to_bits().to_le_bytes();
     }
 }
 
-/// The value of a property record, with `held` for the floats of a composite.
+/// The word and the floats of a composite or text.
+#[inline(never)]
+fn word_and_floats(record: &[u8]) -> (u64, [f64; 4]) {
+    let size = size(variant_of(record[0]));
+    let (first, parts) = record[4..4 + size].split_at(size % 8);
+    let mut floats = [0.0; 4];
+    for (float, bytes) in floats.iter_mut().zip(parts.as_chunks().0) {
+        *float = f64::from_bits(u64::from_le_bytes(*bytes));
+    }
+    (first.first().map_or(0, |&byte| u64::from(byte)), floats)
+}
+
+/// The value of a property record, with `held` for the floats of a composite or text.
 #[inline(always)]
 pub fn read<'a>(record: &[u8], held: &'a mut [f64; 4]) -> Operand<'a> {
-    let variant = record[0] - 2;
+    let variant = variant_of(record[0]);
     let word = match variant {
         variant::VECTOR.. => {
-            *held = floats(record);
-            0
+            let word;
+            (word, *held) = word_and_floats(record);
+            word
         }
         _ => scalar_word(record),
     };
@@ -193,20 +201,6 @@ pub fn read<'a>(record: &[u8], held: &'a mut [f64; 4]) -> Operand<'a> {
 fn scalar_word(record: &[u8]) -> u64 {
     match record[0] {
         kind::BOOL => u64::from(record[4]),
-        _ => word(&record[4..]),
+        _ => u64::from_le_bytes(*record[4..].first_chunk().expect("a whole record")),
     }
-}
-
-fn floats(record: &[u8]) -> [f64; 4] {
-    let parts = size(record[0] - 2) / 8;
-    let mut floats = [0.0; 4];
-    for (float, bytes) in floats[..parts].iter_mut().zip(record[4..].chunks(8)) {
-        *float = f64::from_bits(word(bytes));
-    }
-    floats
-}
-
-#[inline(always)]
-fn word(bytes: &[u8]) -> u64 {
-    u64::from_le_bytes(*bytes.first_chunk().expect("a whole record"))
 }

@@ -3,7 +3,7 @@ use crate::decode::Graph;
 use crate::gates;
 use crate::index::{Feed, Index, PortRef};
 use crate::listing::*;
-use crate::value::{self, Known, Operand, UNWIRED, Value, variant};
+use crate::value::{self, Known, Operand, UNWIRED, Value};
 
 #[derive(Clone, Copy, PartialEq)]
 pub enum Plan {

@@ -11,53 +11,29 @@ use mathlib.Core.Logic.{inl, inr, _≢_}
 use lib.Dec.{eqb, ltb}
 use lib.ListN.{length, getD}
 use borrow.Author.Tests.{ne-eqb, ltb-true, ltb-false, le-ltb}
-use Rattle.ir.specs.Kinds.{bodyOf}
+use Rattle.ir.specs.Kinds.{roleOf, bodyOf}
+use Rattle.ir.specs.declared.Role.the-variants.{Property}
 use Rattle.ir.specs.Ports.{valuePort}
 use Rattle.encoding.specs.Numbers.{bytesOf}
 use Rattle.encoding.specs.Values.{kindOf, valueBytes, headBytes, propertyBytes}
+use Rattle.encoding.specs.Words.{heldCompositeOrText, heldValue}
+use Rattle.encoding.proofs.Sizes.{by-kind, property-kind}
 use Rattle.value.specs.declared.Value.{Value}
 use Rattle.model.specs.Answer.{knownBytes}
 use Rattle.model.proofs.Maps.{by-bool}
-use Rattle.state.specs.Held.{isKind, heldValue, held}
+use Rattle.state.specs.Held.{isKind, held}
 use Rattle.answer.specs.Nodes.{literalFate, fateBy, compositeCount}
 
--- what words of a kind say of a value's bytes
-record Sized (kind a b c d : ℕ) : Type 0 where
-  kind-same : kindOf (heldValue kind a b c d) ≡ kind
-  size : length (valueBytes (heldValue kind a b c d)) + 3 ≡ bodyOf kind
+-- how many bytes the value of a kind has
+size-of : (a b c d kind : ℕ) → roleOf kind ≡ Property → length (valueBytes (heldValue kind a b c d)) + 3 ≡ bodyOf kind
+unfolding heldValue heldCompositeOrText bytesOf
+size-of a b c d = by-kind (λ k. length (valueBytes (heldValue k a b c d)) + 3 ≡ bodyOf k) refl refl refl refl refl refl refl refl
 
-sized : (kind a b c d : ℕ) → 3 ≤ kind → kind ≤ 9 → Sized kind a b c d
-sized kind a b c d l h = pick (ℕ-discrete kind 3) (ℕ-discrete kind 4) (ℕ-discrete kind 5) (ℕ-discrete kind 6) (ℕ-discrete kind 7) (ℕ-discrete kind 8)
-  where
-    at : (k : ℕ) → kind ≡ k → Sized k a b c d → Sized kind a b c d
-    at k e s = subst (λ (m : ℕ). Sized m a b c d) (sym e) s
-
-    pick : Dec (kind ≡ 3) → Dec (kind ≡ 4) → Dec (kind ≡ 5) → Dec (kind ≡ 6) → Dec (kind ≡ 7) → Dec (kind ≡ 8) → Sized kind a b c d
-    pick (yes e) q r s t u = at 3 e (unfold heldValue bytesOf in record { kind-same = refl; size = refl })
-    pick (no p) (yes e) r s t u = at 4 e (unfold heldValue bytesOf in record { kind-same = refl; size = refl })
-    pick (no p) (no q) (yes e) s t u = at 5 e (unfold heldValue bytesOf in record { kind-same = refl; size = refl })
-    pick (no p) (no q) (no r) (yes e) t u = at 6 e (unfold heldValue bytesOf in record { kind-same = refl; size = refl })
-    pick (no p) (no q) (no r) (no s) (yes e) u = at 7 e (unfold heldValue bytesOf in record { kind-same = refl; size = refl })
-    pick (no p) (no q) (no r) (no s) (no t) (yes e) = at 8 e (unfold heldValue bytesOf in record { kind-same = refl; size = refl })
-    pick (no p) (no q) (no r) (no s) (no t) (no u) = let e : kind ≡ 9 = omega arith in at 9 e (unfold heldValue bytesOf in record { kind-same = refl; size = refl })
-
-pub body-small : (kind : ℕ) → 3 ≤ kind → kind ≤ 9 → bodyOf kind ≤ 35
-body-small kind l h = pick (ℕ-discrete kind 3) (ℕ-discrete kind 4) (ℕ-discrete kind 5) (ℕ-discrete kind 6) (ℕ-discrete kind 7) (ℕ-discrete kind 8)
-  where
-    at : (k : ℕ) → kind ≡ k → bodyOf k ≤ 35 → bodyOf kind ≤ 35
-    at k e s = subst (λ (m : ℕ). bodyOf m ≤ 35) (sym e) s
-
-    pick : Dec (kind ≡ 3) → Dec (kind ≡ 4) → Dec (kind ≡ 5) → Dec (kind ≡ 6) → Dec (kind ≡ 7) → Dec (kind ≡ 8) → bodyOf kind ≤ 35
-    pick (yes e) q r s t u = at 3 e (omega arith)
-    pick (no p) (yes e) r s t u = at 4 e (omega arith)
-    pick (no p) (no q) (yes e) s t u = at 5 e (omega arith)
-    pick (no p) (no q) (no r) (yes e) t u = at 6 e (omega arith)
-    pick (no p) (no q) (no r) (no s) (yes e) u = at 7 e (omega arith)
-    pick (no p) (no q) (no r) (no s) (no t) (yes e) = at 8 e (omega arith)
-    pick (no p) (no q) (no r) (no s) (no t) (no u) = let e : kind ≡ 9 = omega arith in at 9 e (omega arith)
+pub body-small : (kind : ℕ) → roleOf kind ≡ Property → bodyOf kind ≤ 35
+body-small = by-kind (λ k. bodyOf k ≤ 35) (omega arith) (omega arith) (omega arith) (omega arith) (omega arith) (omega arith) (omega arith) (omega arith)
 
 -- a kind that is not 0 is one of a value
-pub some-kind : (kind : ℕ) → isKind kind → (kind ≡ 0 → ⊥) → (3 ≤ kind) × (kind ≤ 9)
+pub some-kind : (kind : ℕ) → isKind kind → (kind ≡ 0 → ⊥) → roleOf kind ≡ Property
 some-kind kind (inl e) h = absurd (h e)
 some-kind kind (inr p) h = p
 
@@ -66,9 +42,12 @@ module _ (i kind a b c d : ℕ) where
   unfolding held knownBytes
   known-none e = rw e refl
 
-  pub known-some : 3 ≤ kind → kind ≤ 9 → 1 + bodyOf kind ≡ length (knownBytes i (held kind a b c d))
+  not-none : roleOf kind ≡ Property → kind ≢ 0
+  not-none r e = omega (arith, e, property-kind kind r .least)
+
+  pub known-some : roleOf kind ≡ Property → 1 + bodyOf kind ≡ length (knownBytes i (held kind a b c d))
   unfolding held knownBytes bytesOf
-  known-some l h = let z : kind ≢ 0 = λ e. omega arith in rw (ne-eqb kind 0 z) (omega (arith, sized kind a b c d l h .size))
+  known-some r = rw (ne-eqb kind 0 (not-none r)) (omega (arith, size-of a b c d kind r))
 
   pub fate-other : (action : ℕ) → action ≢ 1 → 3 ≡ length (fateBy i action (held kind a b c d))
   unfolding fateBy bytesOf
@@ -82,9 +61,9 @@ module _ (i kind a b c d : ℕ) where
       go true = refl
       go false = refl
 
-  pub fate-literal : (action : ℕ) → action ≡ 1 → 3 ≤ kind → kind ≤ 9 → bodyOf kind ≡ length (fateBy i action (held kind a b c d))
+  pub fate-literal : (action : ℕ) → action ≡ 1 → roleOf kind ≡ Property → bodyOf kind ≡ length (fateBy i action (held kind a b c d))
   unfolding fateBy held literalFate bytesOf
-  fate-literal action e l h = let z : kind ≢ 0 = λ e. omega arith in rw (e, ne-eqb kind 0 z) (omega (arith, sized kind a b c d l h .size))
+  fate-literal action e r = rw (e, ne-eqb kind 0 (not-none r)) (omega (arith, size-of a b c d kind r))
 
   -- the two records of a node with a scalar value, or with none
   pub scalar-sizes : (action : ℕ) → isKind kind → kind ≤ 5 → length (knownBytes i (held kind a b c d)) + length (fateBy i action (held kind a b c d)) ≤ 23
@@ -100,8 +79,8 @@ module _ (i kind a b c d : ℕ) where
 
       go : Dec (kind ≡ 0) → Dec (action ≡ 1) → length (knownBytes i (held kind a b c d)) + length (fateBy i action (held kind a b c d)) ≤ 23
       go (yes e) q = omega (arith, known-none e, fate-unknown action e)
-      go (no e) (yes q) = let h = some-kind kind k e in omega (arith, small (h .0), known-some (h .0) (h .1), fate-literal action q (h .0) (h .1))
-      go (no e) (no q) = let h = some-kind kind k e in omega (arith, small (h .0), known-some (h .0) (h .1), fate-other action q)
+      go (no e) (yes q) = let h = some-kind kind k e in omega (arith, small (property-kind kind h .least), known-some h, fate-literal action q h)
+      go (no e) (no q) = let h = some-kind kind k e in omega (arith, small (property-kind kind h .least), known-some h, fate-other action q)
 
   -- .. and with any value
   pub most-sizes : (action : ℕ) → isKind kind → length (knownBytes i (held kind a b c d)) + length (fateBy i action (held kind a b c d)) ≤ 23 + 48 * cond (ltb 5 kind) 1 0
@@ -110,22 +89,16 @@ module _ (i kind a b c d : ℕ) where
       composite : 5 < kind → Dec (action ≡ 1) → length (knownBytes i (held kind a b c d)) + length (fateBy i action (held kind a b c d)) ≤ 71
       composite l q =
           let h = some-kind kind k (λ e. omega (arith, l, e)) in
-          go (h .0) (h .1) q
+          go h q
         where
-          go : 3 ≤ kind → kind ≤ 9 → Dec (action ≡ 1) → length (knownBytes i (held kind a b c d)) + length (fateBy i action (held kind a b c d)) ≤ 71
-          go m n (yes q) = omega (arith, body-small kind m n, known-some m n, fate-literal action q m n)
-          go m n (no q) = omega (arith, body-small kind m n, known-some m n, fate-other action q)
+          go : roleOf kind ≡ Property → Dec (action ≡ 1) → length (knownBytes i (held kind a b c d)) + length (fateBy i action (held kind a b c d)) ≤ 71
+          go r (yes q) = omega (arith, body-small kind r, known-some r, fate-literal action q r)
+          go r (no q) = omega (arith, body-small kind r, known-some r, fate-other action q)
 
 -- ---- what is written of a node
 
-pub kind-low : (v : Value) → kindOf v ≤ 9
-kind-low (Value.Int n) = omega arith
-kind-low (Value.Float x) = omega arith
-kind-low (Value.Bool b) = omega arith
-kind-low (Value.Vector x y z) = omega arith
-kind-low (Value.Rotator p y r) = omega arith
-kind-low (Value.Quat x y z w) = omega arith
-kind-low (Value.Color r g b a) = omega arith
+pub kind-low : (kind : ℕ) → roleOf kind ≡ Property → kind ≤ 12
+kind-low = by-kind (λ k. k ≤ 12) (omega arith) (omega arith) (omega arith) (omega arith) (omega arith) (omega arith) (omega arith) (omega arith)
 
 pub bytes-none : (i : ℕ) (o : Option Value) → o ≡ none → knownBytes i o ≡ []
 unfolding knownBytes

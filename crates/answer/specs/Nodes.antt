@@ -26,7 +26,7 @@ fateBy i action o = cond (eqb action 1) (literalFate i o) (headBytes (cond (eqb 
 abbrev pub fateRecords : List ℕ → List ℕ → List ℕ → ℕ → List ℕ
 fateRecords kinds words actions n = each (λ i. fateBy i (getD actions i 0) (knownOf kinds words i)) (upTo n)
 
--- how many of the first nodes have a composite, whose kinds are from 06 on
+-- how many of the first nodes have a composite or a text, whose kinds are from 06 on
 unfoldable pub compositeCount : List ℕ → ℕ → ℕ
 compositeCount kinds zero = 0
 compositeCount kinds (suc n) = compositeCount kinds n + cond (ltb 5 (getD kinds n 0)) 1 0

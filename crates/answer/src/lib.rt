@@ -1,12 +1,11 @@
 // The records of the answer that say what is known of each node and what becomes of it, and how long they are.
 use encoding::numbers;
 use encoding::values;
+use encoding::words::Words;
 use ir::kind;
 use ir::limit;
 use ir::port;
 use state::WORDS;
-use value::OptionValue;
-use value::Value;
 ghost use mathlib.Core.Path.{_≡_};
 ghost use mathlib.Core.Bool.{cond};
 ghost use mathlib.Core.Option.{some};
@@ -15,7 +14,10 @@ ghost use Prim.Native.Nat.{ℕ, _+_, _*_, _≤_, _<_};
 ghost use lib.Dec.{eqb, ltb, leb};
 ghost use lib.ListN.{length, getD};
 ghost use Rattle.ir.specs.Limits.{maxNodes};
+ghost use Rattle.ir.specs.Kinds.{roleOf};
+ghost use Rattle.ir.specs.declared.Role.{Role};
 ghost use Rattle.encoding.specs.Numbers.{Written};
+ghost use Rattle.encoding.specs.Words.{heldBy};
 ghost use Rattle.model.specs.Answer.{knownBytes};
 ghost use Rattle.state.specs.Held.{held, knownOf, isKind};
 ghost use Rattle.answer.specs.Nodes.{knownRecords, literalFate, fateBy, fateRecords, compositeCount};
@@ -30,7 +32,7 @@ const FATE_LITERAL: u8 = 0x0F;
 // How long a record of a fate is without a value.
 const FATE_SIZE: usize = 3;
 
-// How long the two records of a node are at most where its value is a scalar, and how much longer where it is a composite.
+// How long the two records of a node are at most where its value is a scalar, and how much longer where it is a composite or a text.
 const SCALAR_SIZES: usize = 23;
 
 const COMPOSITE_MORE: usize = 48;
@@ -75,14 +77,14 @@ fn nodes_size(kinds: &[u8; limit::NODES], actions: &[u8; limit::NODES], nodes: u
     sum
 }
 
-// 1 for the kind of a composite, and else 0.
+// 1 for the kind of a composite or a text, and else 0.
 fn composite(kind: u8) -> usize
     ensures { λ r. ⌜ (r ≡ cond (ltb 5 kind) 1 0) × (r ≤ 1) ⌝ }
 {
     if kind::BOOL < kind { 1 } else { 0 }
 }
 
-// How many of the first `nodes` nodes have a composite.
+// How many of the first `nodes` nodes have a composite or a text.
 fn count_composites(kinds: &[u8; limit::NODES], nodes: usize) -> usize
     requires { ⌜ (nodes ≤ maxNodes) × ((m : ℕ) → isKind (getD (now kinds) m 0)) ⌝ }
     ensures bound { λ r. ⌜ ((words actions : List ℕ) → length (knownRecords (now (kinds .entry)) words nodes) + length (fateRecords (now (kinds .entry)) words actions nodes) ≤ 23 * nodes + 48 * r) ⌝ }
@@ -136,13 +138,15 @@ fn write_known(
     out: &mut [u8],
     at: usize,
 ) -> usize
-    requires { ⌜ (i < maxNodes) × (at + length (knownBytes i (knownOf (now kinds) (now words) i)) ≤ length (now out)) ⌝ }
+    requires { ⌜ (i < maxNodes) × (at + length (knownBytes i (knownOf (now kinds) (now words) i)) ≤ length (now out)) × ((m : ℕ) → isKind (getD (now kinds) m 0)) ⌝ }
     ensures { λ r. ⌜ Written (knownBytes i (knownOf (now (kinds .entry)) (now (words .entry)) i)) (now (out .entry)) (now (out .exit)) at r ⌝ }
 {
-    let OptionValue::Some(v) = state::load(kinds, words, i) else {
+    let kind = kinds[i];
+    if kind == state::UNKNOWN {
         return at;
-    };
-    values::write_value(out, at, i, port::VALUE, v)
+    }
+    let w = state::words_at(words, i);
+    values::write_value(out, at, i, port::VALUE, kind, w)
 }
 
 // The known nodes in number order.
@@ -153,7 +157,7 @@ fn write_known_records(
     out: &mut [u8],
     at: usize,
 ) -> usize
-    requires { ⌜ (nodes ≤ maxNodes) × (at + length (knownRecords (now kinds) (now words) nodes) ≤ length (now out)) ⌝ }
+    requires { ⌜ (nodes ≤ maxNodes) × (at + length (knownRecords (now kinds) (now words) nodes) ≤ length (now out)) × ((m : ℕ) → isKind (getD (now kinds) m 0)) ⌝ }
     ensures { λ r. ⌜ Written (knownRecords (now (kinds .entry)) (now (words .entry)) nodes) (now (out .entry)) (now (out .exit)) at r ⌝ }
 {
     let mut next = at;
@@ -165,13 +169,12 @@ fn write_known_records(
     next
 }
 
-fn write_literal(i: usize, v: Value, out: &mut [u8], at: usize) -> usize
-    requires { ⌜ at + length (literalFate i (some v)) ≤ length (now out) ⌝ }
-    ensures { λ r. ⌜ Written (literalFate i (some v)) (now (out .entry)) (now (out .exit)) at r ⌝ }
+fn write_literal(i: usize, kind: u8, w: Words, out: &mut [u8], at: usize) -> usize
+    requires { ⌜ (roleOf kind ≡ Role.Property) × (at + length (literalFate i (some (heldBy kind w))) ≤ length (now out)) ⌝ }
+    ensures { λ r. ⌜ Written (literalFate i (some (heldBy kind w))) (now (out .entry)) (now (out .exit)) at r ⌝ }
 {
-    let kind = values::kind_of(v);
     let next = numbers::write_head(out, at, FATE_LITERAL + kind, i);
-    values::write_bytes(out, next, v)
+    values::write_bytes(out, next, kind, w.a, w.b, w.c, w.d)
 }
 
 fn fate_of(action: u8) -> u8
@@ -192,17 +195,19 @@ fn write_fate(
     out: &mut [u8],
     at: usize,
 ) -> usize
-    requires { ⌜ (i < maxNodes) × (at + length (fateBy i action (knownOf (now kinds) (now words) i)) ≤ length (now out)) ⌝ }
+    requires { ⌜ (i < maxNodes) × (at + length (fateBy i action (knownOf (now kinds) (now words) i)) ≤ length (now out)) × ((m : ℕ) → isKind (getD (now kinds) m 0)) ⌝ }
     ensures { λ r. ⌜ Written (fateBy i action (knownOf (now (kinds .entry)) (now (words .entry)) i)) (now (out .entry)) (now (out .exit)) at r ⌝ }
 {
     if action != state::BECOME_LITERAL {
         let fate = fate_of(action);
         return numbers::write_head(out, at, fate, i);
     }
-    let OptionValue::Some(v) = state::load(kinds, words, i) else {
+    let kind = kinds[i];
+    if kind == state::UNKNOWN {
         return numbers::write_head(out, at, FATE_KEPT, i);
-    };
-    write_literal(i, v, out, at)
+    }
+    let w = state::words_at(words, i);
+    write_literal(i, kind, w, out, at)
 }
 
 // The fates in number order.
@@ -214,7 +219,7 @@ fn write_fates(
     out: &mut [u8],
     at: usize,
 ) -> usize
-    requires { ⌜ (nodes ≤ maxNodes) × (at + length (fateRecords (now kinds) (now words) (now actions) nodes) ≤ length (now out)) ⌝ }
+    requires { ⌜ (nodes ≤ maxNodes) × (at + length (fateRecords (now kinds) (now words) (now actions) nodes) ≤ length (now out)) × ((m : ℕ) → isKind (getD (now kinds) m 0)) ⌝ }
     ensures { λ r. ⌜ Written (fateRecords (now (kinds .entry)) (now (words .entry)) (now (actions .entry)) nodes) (now (out .entry)) (now (out .exit)) at r ⌝ }
 {
     let mut next = at;
@@ -234,7 +239,7 @@ pub fn write_nodes(
     nodes: usize,
     out: &mut [u8],
 ) -> usize
-    requires { ⌜ (nodes ≤ maxNodes) × (length (knownRecords (now kinds) (now words) nodes) + length (fateRecords (now kinds) (now words) (now actions) nodes) ≤ length (now out)) ⌝ }
+    requires { ⌜ (nodes ≤ maxNodes) × (length (knownRecords (now kinds) (now words) nodes) + length (fateRecords (now kinds) (now words) (now actions) nodes) ≤ length (now out)) × ((m : ℕ) → isKind (getD (now kinds) m 0)) ⌝ }
     ensures { λ r. ⌜ Written (knownRecords (now (kinds .entry)) (now (words .entry)) nodes ++ fateRecords (now (kinds .entry)) (now (words .entry)) (now (actions .entry)) nodes) (now (out .entry)) (now (out .exit)) 0 r ⌝ }
 {
     let fates = write_known_records(kinds, words, nodes, out, 0);

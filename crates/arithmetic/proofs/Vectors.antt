@@ -11,12 +11,13 @@ use Rattle.arithmetic.specs.Arithmetic.{isVectorValue, spreadScalar, spr
 
 pub other :
     (v : Value) →
-    OneOf (0 ∷ 1 ∷ 2 ∷ 4 ∷ 5 ∷ 6 ∷ []) (tagOf the-type v) →
+    OneOf (0 ∷ 1 ∷ 2 ∷ 4 ∷ 5 ∷ 6 ∷ 7 ∷ []) (tagOf the-type v) →
     (false ≡ isVectorValue v) × (spreadScalar (scalarValue v) ≡ spreadValue v)
 other (Value.Int n) k = (refl, refl)
 other (Value.Float x) k = (refl, refl)
 other (Value.Bool b) k = (refl, refl)
-other (Value.Vector x y z) k = absurd (miss (0 ∷ 1 ∷ 2 ∷ 4 ∷ 5 ∷ 6 ∷ []) 3 tt k)
+other (Value.Vector x y z) k = absurd (miss (0 ∷ 1 ∷ 2 ∷ 4 ∷ 5 ∷ 6 ∷ 7 ∷ []) 3 tt k)
 other (Value.Rotator p y r) k = (refl, refl)
 other (Value.Quat x y z w) k = (refl, refl)
 other (Value.Color r g b a) k = (refl, refl)
+other (Value.Text low high) k = (refl, refl)

@@ -18,6 +18,7 @@ no-vector (Operand.Known (Value.Vector x y z)) e = cc
 no-vector (Operand.Known (Value.Rotator p y r)) e = refl
 no-vector (Operand.Known (Value.Quat x y z w)) e = refl
 no-vector (Operand.Known (Value.Color r g b a)) e = refl
+no-vector (Operand.Known (Value.Text low high)) e = refl
 
 pub whole-operands : (op : MathOp) (x y : Operand) {a b : ℤ} → mathInOf x ≡ MathIn.I a → mathInOf y ≡ MathIn.I b → numbersMath op (MathIn.I a) (MathIn.I b) ≡ mathOf op x y
 unfolding mathOf

@@ -65,7 +65,7 @@ numbersMath op (MathIn.F x) b = floatsMath op (asReal (MathIn.F x)) (asReal b)
 numbersMath op MathIn.None b = floatsMath op (asReal MathIn.None) (asReal b)
 
 -- "Vector with Vector or a scalar (Unwired, Int, Float, Bool) goes part by part without that sign rule; a non-finite part gives None.
--- A Rotator, Quat or Color operand gives None." A scalar stands for all three parts
+-- A Rotator, Quat or Color operand gives None.", and so does text. A scalar stands for all three parts
 abbrev pub spreadScalar : OptionFloat → OptionVector
 spreadScalar (OptionFloat.Some s) = OptionVector.Some s s s
 spreadScalar OptionFloat.None = OptionVector.None
@@ -78,6 +78,7 @@ isVectorValue (Value.Vector x y z) = true
 isVectorValue (Value.Rotator p y r) = false
 isVectorValue (Value.Quat x y z w) = false
 isVectorValue (Value.Color r g b a) = false
+isVectorValue (Value.Text low high) = false
 
 abbrev pub isVector : Operand → Bool
 isVector Operand.Unwired = false
@@ -91,6 +92,7 @@ spreadValue (Value.Vector x y z) = OptionVector.Some (sanitizeOf x) (sanitizeOf 
 spreadValue (Value.Rotator p y r) = OptionVector.None
 spreadValue (Value.Quat x y z w) = OptionVector.None
 spreadValue (Value.Color r g b a) = OptionVector.None
+spreadValue (Value.Text low high) = OptionVector.None
 
 abbrev pub spread : Operand → OptionVector
 spread Operand.Unwired = spreadScalar (scalarOf Operand.Unwired)

@@ -21,7 +21,7 @@ use Rattle.value.specs.Variants.{variantOf}
 use Rattle.value.proofs.Value.{the-type}
 use Rattle.conversions.specs.Conversions.{scalarOf, onlyIntOf}
 use Rattle.comparison.specs.declared.OptionBool.{OptionBool}
-use Rattle.comparison.specs.Comparison.{eqInt, eqFloat, eqBool, eqValue, zeroLike, orZeroLike, given, contrary, equalOf, notEqualOf, floatsBy, intsBy, orderBy, swappedIf, lessOf, lessOrEqualOf, greaterOf, greaterOrEqualOf}
+use Rattle.comparison.specs.Comparison.{eqInt, eqFloat, eqBool, eqText, eqValue, zeroLike, orZeroLike, given, contrary, equalOf, notEqualOf, floatsBy, intsBy, orderBy, swappedIf, lessOf, lessOrEqualOf, greaterOf, greaterOrEqualOf}
 
 -- ---- What is known at a match's last arm: the value's tag, which is its variant less 1, is one of the arm's keys
 
@@ -36,24 +36,37 @@ int-other x (Value.Vector x2 y2 z2) o = refl
 int-other x (Value.Rotator p2 y2 r2) o = refl
 int-other x (Value.Quat x2 y2 z2 w2) o = refl
 int-other x (Value.Color r2 g2 b2 a2) o = refl
+int-other x (Value.Text l h) o = absurd (miss (3 ∷ 4 ∷ 5 ∷ 6 ∷ []) 7 tt o)
 
-pub float-other : (x : Float) (b : Value) → Among (2 ∷ 3 ∷ 4 ∷ 5 ∷ 6 ∷ []) b → OptionBool.None ≡ eqFloat x b
-float-other x (Value.Int y) o = absurd (miss (2 ∷ 3 ∷ 4 ∷ 5 ∷ 6 ∷ []) 0 tt o)
-float-other x (Value.Float y) o = absurd (miss (2 ∷ 3 ∷ 4 ∷ 5 ∷ 6 ∷ []) 1 tt o)
+pub float-other : (x : Float) (b : Value) → Among (2 ∷ 3 ∷ 4 ∷ 5 ∷ 6 ∷ 7 ∷ []) b → OptionBool.None ≡ eqFloat x b
+float-other x (Value.Int y) o = absurd (miss (2 ∷ 3 ∷ 4 ∷ 5 ∷ 6 ∷ 7 ∷ []) 0 tt o)
+float-other x (Value.Float y) o = absurd (miss (2 ∷ 3 ∷ 4 ∷ 5 ∷ 6 ∷ 7 ∷ []) 1 tt o)
 float-other x (Value.Bool y) o = refl
 float-other x (Value.Vector x2 y2 z2) o = refl
 float-other x (Value.Rotator p2 y2 r2) o = refl
 float-other x (Value.Quat x2 y2 z2 w2) o = refl
 float-other x (Value.Color r2 g2 b2 a2) o = refl
+float-other x (Value.Text l h) o = refl
 
-pub bool-other : (x : Bool) (b : Value) → Among (1 ∷ 3 ∷ 4 ∷ 5 ∷ 6 ∷ []) b → OptionBool.None ≡ eqBool x b
-bool-other x (Value.Int y) o = absurd (miss (1 ∷ 3 ∷ 4 ∷ 5 ∷ 6 ∷ []) 0 tt o)
+pub bool-other : (x : Bool) (b : Value) → Among (1 ∷ 3 ∷ 4 ∷ 5 ∷ 6 ∷ 7 ∷ []) b → OptionBool.None ≡ eqBool x b
+bool-other x (Value.Int y) o = absurd (miss (1 ∷ 3 ∷ 4 ∷ 5 ∷ 6 ∷ 7 ∷ []) 0 tt o)
 bool-other x (Value.Float y) o = refl
-bool-other x (Value.Bool y) o = absurd (miss (1 ∷ 3 ∷ 4 ∷ 5 ∷ 6 ∷ []) 2 tt o)
+bool-other x (Value.Bool y) o = absurd (miss (1 ∷ 3 ∷ 4 ∷ 5 ∷ 6 ∷ 7 ∷ []) 2 tt o)
 bool-other x (Value.Vector x2 y2 z2) o = refl
 bool-other x (Value.Rotator p2 y2 r2) o = refl
 bool-other x (Value.Quat x2 y2 z2 w2) o = refl
 bool-other x (Value.Color r2 g2 b2 a2) o = refl
+bool-other x (Value.Text l h) o = refl
+
+pub text-other : (l h : ℕ) (b : Value) → Among (1 ∷ 2 ∷ 3 ∷ 4 ∷ 5 ∷ 6 ∷ []) b → OptionBool.None ≡ eqText l h b
+text-other l h (Value.Int y) o = absurd (miss (1 ∷ 2 ∷ 3 ∷ 4 ∷ 5 ∷ 6 ∷ []) 0 tt o)
+text-other l h (Value.Float y) o = refl
+text-other l h (Value.Bool y) o = refl
+text-other l h (Value.Vector x2 y2 z2) o = refl
+text-other l h (Value.Rotator p2 y2 r2) o = refl
+text-other l h (Value.Quat x2 y2 z2 w2) o = refl
+text-other l h (Value.Color r2 g2 b2 a2) o = refl
+text-other l h (Value.Text l2 h2) o = absurd (miss (1 ∷ 2 ∷ 3 ∷ 4 ∷ 5 ∷ 6 ∷ []) 7 tt o)
 
 variant-tag : (b : Value) → variantOf b ≡ suc (tagOf the-type b)
 variant-tag (Value.Int n) = refl
@@ -63,6 +76,7 @@ variant-tag (Value.Vector x y z) = refl
 variant-tag (Value.Rotator p y r) = refl
 variant-tag (Value.Quat x y z w) = refl
 variant-tag (Value.Color r g b a) = refl
+variant-tag (Value.Text low high) = refl
 
 -- The composite of tag k beside a value of another tag.
 pub composite-other : (k : ℕ) (ks : List ℕ) (b : Value) (r : OptionBool) → T (not (hasKey ks k)) → Among ks b → OptionBool.None ≡ cond (eqb (suc k) (variantOf b)) r OptionBool.None

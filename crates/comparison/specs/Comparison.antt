@@ -1,4 +1,5 @@
 -- Equality, order and logic (document 01, "Corners of semantics.rs").
+use Prim.Native.Nat.{ℕ}
 use mathlib.Core.Bool.{Bool, true, false, not, cond, _&&_, _||_, Bool·beq}
 use mathlib.Core.List.{List, [], _∷_}
 use lib.Dec.{eqb}
@@ -10,6 +11,8 @@ use Rattle.whole.specs.Compare.{eqZ}
 use Rattle.whole.specs.Convert.{intOfBool, intAsF64}
 use Rattle.whole.specs.declared.OptionInt.{OptionInt}
 use Rattle.whole.specs.declared.OptionFloat.{OptionFloat}
+use Rattle.text.specs.Text.{textOf, isText}
+use Rattle.text.specs.Decimal.{isDecimal}
 use Rattle.value.specs.declared.Value.{Value}
 use Rattle.value.specs.declared.Operand.{Operand}
 use Rattle.value.specs.declared.OptionValue.{OptionValue}
@@ -38,6 +41,7 @@ eqInt n (Value.Vector x y z) = OptionBool.None
 eqInt n (Value.Rotator p y r) = OptionBool.None
 eqInt n (Value.Quat x y z w) = OptionBool.None
 eqInt n (Value.Color r g b a) = OptionBool.None
+eqInt n (Value.Text low high) = OptionBool.Some (isDecimal low high n)
 
 abbrev pub eqFloat : Float → Value → OptionBool
 eqFloat x (Value.Int m) = eqIntFloat m x
@@ -47,6 +51,7 @@ eqFloat x (Value.Vector x′ y z) = OptionBool.None
 eqFloat x (Value.Rotator p y r) = OptionBool.None
 eqFloat x (Value.Quat x′ y z w) = OptionBool.None
 eqFloat x (Value.Color r g b a) = OptionBool.None
+eqFloat x (Value.Text low high) = OptionBool.None
 
 abbrev pub eqBool : Bool → Value → OptionBool
 eqBool b (Value.Int m) = OptionBool.Some (eqZ m (intOfBool b))
@@ -56,6 +61,7 @@ eqBool b (Value.Vector x y z) = OptionBool.None
 eqBool b (Value.Rotator p y r) = OptionBool.None
 eqBool b (Value.Quat x y z w) = OptionBool.None
 eqBool b (Value.Color r g b′ a) = OptionBool.None
+eqBool b (Value.Text low high) = OptionBool.None
 
 -- "composites of one kind part by part by S"
 abbrev pub parts : Value → List Float
@@ -66,6 +72,7 @@ parts (Value.Vector x y z) = x ∷ y ∷ z ∷ []
 parts (Value.Rotator p y r) = p ∷ y ∷ r ∷ []
 parts (Value.Quat x y z w) = x ∷ y ∷ z ∷ w ∷ []
 parts (Value.Color r g b a) = r ∷ g ∷ b ∷ a ∷ []
+parts (Value.Text low high) = []
 
 abbrev pub eqParts : List Float → List Float → Bool
 eqParts [] [] = true
@@ -76,6 +83,17 @@ eqParts (x ∷ xs) (y ∷ ys) = eqS x y && eqParts xs ys
 abbrev pub eqComposite : Value → Value → OptionBool
 eqComposite a b = cond (eqb (variantOf a) (variantOf b)) (OptionBool.Some (eqParts (parts a) (parts b))) OptionBool.None
 
+-- Document 02, Wish 7: "Equality is with text byte for byte, with Int by its plain decimal form, ..; with other kinds None."
+abbrev pub eqText : ℕ → ℕ → Value → OptionBool
+eqText low high (Value.Int n) = OptionBool.Some (isDecimal low high n)
+eqText low high (Value.Float x) = OptionBool.None
+eqText low high (Value.Bool b) = OptionBool.None
+eqText low high (Value.Vector x y z) = OptionBool.None
+eqText low high (Value.Rotator p y r) = OptionBool.None
+eqText low high (Value.Quat x y z w) = OptionBool.None
+eqText low high (Value.Color r g b a) = OptionBool.None
+eqText low high (Value.Text l h) = OptionBool.Some (isText low high (textOf l h))
+
 -- ".. each pair not named here: None"
 abbrev pub eqValue : Value → Value → OptionBool
 eqValue (Value.Int n) b = eqInt n b
@@ -85,8 +103,9 @@ eqValue (Value.Vector x y z) b = eqComposite (Value.Vector x y z) b
 eqValue (Value.Rotator p y r) b = eqComposite (Value.Rotator p y r) b
 eqValue (Value.Quat x y z w) b = eqComposite (Value.Quat x y z w) b
 eqValue (Value.Color r g b′ a) b = eqComposite (Value.Color r g b′ a) b
+eqValue (Value.Text low high) b = eqText low high b
 
--- "Unwired takes the other's zero."
+-- "Unwired takes the other's zero." Document 02, Wish 7: "and with Unwired as empty text"
 abbrev pub zeroLike : Value → Value
 zeroLike (Value.Int n) = Value.Int (pos 0)
 zeroLike (Value.Float x) = Value.Float floatZero
@@ -95,6 +114,7 @@ zeroLike (Value.Vector x y z) = Value.Vector floatZero floatZero floatZero
 zeroLike (Value.Rotator p y r) = Value.Rotator floatZero floatZero floatZero
 zeroLike (Value.Quat x y z w) = Value.Quat floatZero floatZero floatZero floatZero
 zeroLike (Value.Color r g b a) = Value.Color floatZero floatZero floatZero floatZero
+zeroLike (Value.Text low high) = Value.Text 0 0
 
 -- an operand as it counts beside another; of two Unwired neither gets a zero
 abbrev pub orZeroLike : Operand → Operand → Operand
@@ -125,7 +145,8 @@ equalOf a b = given (eqOf a b)
 unfoldable pub notEqualOf : Operand → Operand → OptionValue
 notEqualOf a b = given (contrary (eqOf a b))
 
--- "Order gates: two Ints exactly; else by float with S, Unwired 0, Bool 0 or 1; composites None."
+-- "Order gates: two Ints exactly; else by float with S, Unwired 0, Bool 0 or 1; composites None." So text too: question 12 keeps
+-- every row of theirs away from it
 abbrev pub floatsBy : (Float → Float → Bool) → OptionFloat → OptionFloat → OptionBool
 floatsBy f (OptionFloat.Some x) (OptionFloat.Some y) = OptionBool.Some (f x y)
 floatsBy f (OptionFloat.Some x) OptionFloat.None = OptionBool.None

@@ -6,7 +6,7 @@ ghost use lib.Signed.{ltZ, leZ};
 ghost use Rattle.whole.specs.Compare.{eqZ};
 ghost use Rattle.whole.specs.Convert.{intOfBool};
 ghost use Rattle.conversions.specs.Conversions.{scalarOf};
-ghost use Rattle.comparison.specs.Comparison.{eqS, eqIntFloat, eqInt, eqFloat, eqBool, eqComposite, eqValue, zeroLike, orZeroLike, given, equalOf, notEqualOf, floatsBy, swappedIf, lessOf, lessOrEqualOf, greaterOf, greaterOrEqualOf, logicalAndOf, logicalOrOf, logicalXorOf, logicalNotOf, logicalNandOf, logicalNorOf};
+ghost use Rattle.comparison.specs.Comparison.{eqS, eqIntFloat, eqInt, eqFloat, eqBool, eqComposite, eqText, eqValue, zeroLike, orZeroLike, given, equalOf, notEqualOf, floatsBy, swappedIf, lessOf, lessOrEqualOf, greaterOf, greaterOrEqualOf, logicalAndOf, logicalOrOf, logicalXorOf, logicalNotOf, logicalNandOf, logicalNorOf};
 use conversions::only_int;
 use conversions::scalar;
 use conversions::truthy;
@@ -54,6 +54,7 @@ fn eq_int(x: i64, b: Value) -> OptionBool
         Value::Int(y) => OptionBool::Some(whole::eq(x, y)),
         Value::Float(y) => eq_int_float(x, y),
         Value::Bool(y) => OptionBool::Some(eq_int_bool(x, y)),
+        Value::Text { low, high } => OptionBool::Some(text::is_decimal(low, high, x)),
         _ => OptionBool::None,
     }
 }
@@ -140,6 +141,17 @@ fn eq_color(r1: f64, g1: f64, b1: f64, a1: f64, b: Value) -> OptionBool
     )
 }
 
+// A text beside an Int is compared with its decimal form.
+fn eq_text(low: u64, high: u64, b: Value) -> OptionBool
+    ensures { λ r. ⌜ r ≡ eqText low high b ⌝ }
+{
+    match b {
+        Value::Int(y) => OptionBool::Some(text::is_decimal(low, high, y)),
+        Value::Text { low: l, high: h } => OptionBool::Some(text::eq(low, high, l, h)),
+        _ => OptionBool::None,
+    }
+}
+
 fn eq_value(a: Value, b: Value) -> OptionBool
     ensures { λ r. ⌜ r ≡ eqValue a b ⌝ }
 {
@@ -151,6 +163,7 @@ fn eq_value(a: Value, b: Value) -> OptionBool
         Value::Rotator { pitch, yaw, roll } => eq_rotator(pitch, yaw, roll, b),
         Value::Quat { x, y, z, w } => eq_quat(x, y, z, w, b),
         Value::Color { r, g, b: blue, a } => eq_color(r, g, blue, a, b),
+        Value::Text { low, high } => eq_text(low, high, b),
     }
 }
 
@@ -198,6 +211,7 @@ fn default_for(other: Value) -> Value
             b: 0.0,
             a: 0.0,
         },
+        Value::Text { low: _, high: _ } => Value::Text { low: 0, high: 0 },
     }
 }
 

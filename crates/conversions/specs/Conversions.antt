@@ -7,6 +7,7 @@ use Rattle.whole.specs.Compare.{eqZ}
 use Rattle.whole.specs.Convert.{intOfBool, intAsF64}
 use Rattle.whole.specs.declared.OptionInt.{OptionInt}
 use Rattle.whole.specs.declared.OptionFloat.{OptionFloat}
+use Rattle.text.specs.Text.{isFalse}
 use Rattle.value.specs.declared.Value.{Value}
 use Rattle.value.specs.declared.Operand.{Operand}
 use Rattle.value.specs.declared.OptionValue.{OptionValue}
@@ -19,7 +20,8 @@ abbrev pub floatOfBool : Bool → Float
 floatOfBool false = floatZero
 floatOfBool true = ofBits binary64 0x3ff0_0000_0000_0000
 
--- "T (truthy): Int or S not zero; a true Bool; Unwired and the four composites are false."
+-- "T (truthy): Int or S not zero; a true Bool; Unwired and the four composites are false." Document 02, Wish 7: "Text is false for empty,
+-- `0` and `false`, else true."
 abbrev pub truthyValue : Value → Bool
 truthyValue (Value.Int n) = not (eqZ n (pos 0))
 truthyValue (Value.Float x) = ne (sanitizeOf x) floatZero
@@ -28,6 +30,7 @@ truthyValue (Value.Vector x y z) = false
 truthyValue (Value.Rotator p y r) = false
 truthyValue (Value.Quat x y z w) = false
 truthyValue (Value.Color r g b a) = false
+truthyValue (Value.Text low high) = not (isFalse low high)
 
 abbrev pub truthyOf : Operand → Bool
 truthyOf Operand.Unwired = false
@@ -43,6 +46,7 @@ scalarValue (Value.Vector x y z) = OptionFloat.None
 scalarValue (Value.Rotator p y r) = OptionFloat.None
 scalarValue (Value.Quat x y z w) = OptionFloat.None
 scalarValue (Value.Color r g b a) = OptionFloat.None
+scalarValue (Value.Text low high) = OptionFloat.None
 
 abbrev pub scalarOf : Operand → OptionFloat
 scalarOf Operand.Unwired = OptionFloat.Some floatZero
@@ -57,6 +61,7 @@ mathInValue (Value.Vector x y z) = MathIn.None
 mathInValue (Value.Rotator p y r) = MathIn.None
 mathInValue (Value.Quat x y z w) = MathIn.None
 mathInValue (Value.Color r g b a) = MathIn.None
+mathInValue (Value.Text low high) = MathIn.None
 
 abbrev pub mathInOf : Operand → MathIn
 mathInOf Operand.Unwired = MathIn.I (pos 0)
@@ -71,6 +76,7 @@ asFloatValue (Value.Vector x y z) = OptionFloat.None
 asFloatValue (Value.Rotator p y r) = OptionFloat.None
 asFloatValue (Value.Quat x y z w) = OptionFloat.None
 asFloatValue (Value.Color r g b a) = OptionFloat.None
+asFloatValue (Value.Text low high) = OptionFloat.None
 
 abbrev pub asFloatOf : Operand → OptionFloat
 asFloatOf Operand.Unwired = OptionFloat.None
@@ -85,6 +91,7 @@ asIntValue (Value.Vector x y z) = OptionInt.None
 asIntValue (Value.Rotator p y r) = OptionInt.None
 asIntValue (Value.Quat x y z w) = OptionInt.None
 asIntValue (Value.Color r g b a) = OptionInt.None
+asIntValue (Value.Text low high) = OptionInt.None
 
 abbrev pub asIntOf : Operand → OptionInt
 asIntOf Operand.Unwired = OptionInt.None
@@ -99,6 +106,7 @@ onlyIntValue (Value.Vector x y z) = OptionInt.None
 onlyIntValue (Value.Rotator p y r) = OptionInt.None
 onlyIntValue (Value.Quat x y z w) = OptionInt.None
 onlyIntValue (Value.Color r g b a) = OptionInt.None
+onlyIntValue (Value.Text low high) = OptionInt.None
 
 abbrev pub onlyIntOf : Operand → OptionInt
 onlyIntOf Operand.Unwired = OptionInt.None

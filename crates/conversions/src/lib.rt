@@ -39,6 +39,7 @@ pub fn truthy_value(v: Value) -> bool
             b: _,
             a: _,
         } => false,
+        Value::Text { low, high } => !text::is_false(low, high),
     }
 }
 
@@ -82,6 +83,7 @@ fn scalar_value(v: Value) -> OptionFloat
             b: _,
             a: _,
         } => OptionFloat::None,
+        Value::Text { low: _, high: _ } => OptionFloat::None,
     }
 }
 
@@ -120,6 +122,7 @@ fn math_in_value(v: Value) -> MathIn
             b: _,
             a: _,
         } => MathIn::None,
+        Value::Text { low: _, high: _ } => MathIn::None,
     }
 }
 
@@ -157,6 +160,7 @@ fn as_float_value(v: Value) -> OptionFloat
             b: _,
             a: _,
         } => OptionFloat::None,
+        Value::Text { low: _, high: _ } => OptionFloat::None,
     }
 }
 
@@ -194,6 +198,7 @@ fn as_int_value(v: Value) -> OptionInt
             b: _,
             a: _,
         } => OptionInt::None,
+        Value::Text { low: _, high: _ } => OptionInt::None,
     }
 }
 
@@ -231,6 +236,7 @@ fn only_int_value(v: Value) -> OptionInt
             b: _,
             a: _,
         } => OptionInt::None,
+        Value::Text { low: _, high: _ } => OptionInt::None,
     }
 }
 

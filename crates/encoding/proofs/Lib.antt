@@ -1,3 +1,5 @@
 pub mod Splices
 pub mod Sizes
 pub mod ReadBack
+pub mod TextAgain
+pub mod Held

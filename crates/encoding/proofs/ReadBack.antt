@@ -9,19 +9,26 @@ use lib.ListN.{length, getD, take, drop, length-append, List·getD-append}
 use lib.Seq.{drop-cons, getD-append-add}
 use lib.Dec.{T}
 use lib.Ieee.{Float as IeeeFloat, fits, ofBits, binary64}
+use lib.Ieee.Bits.{ofBits-fits}
 use mir.Val.{SFits, ofZ}
 use mir.Syntax.{w64}
 use mir.Facts.{toZ-ofZ}
-use mir.ValLaws.{ofZ-fits}
+use mir.ValLaws.{ofZ-fits, toZ-fits}
+use Rattle.ir.specs.Kinds.{roleOf}
+use Rattle.ir.specs.declared.Role.the-variants.{Property}
 use Rattle.ir.specs.declared.Wire.{Wire}
 use Rattle.ieee.specs.Bits.{bitsOf}
 use Rattle.whole.specs.Bits.{fromBits}
+use Rattle.text.specs.Text.{textLength}
 use Rattle.value.specs.declared.Value.{Value}
-use Rattle.value.specs.declared.Value.the-variants.{Int, Float, Bool, Vector, Rotator, Quat, Color}
+use Rattle.value.specs.declared.Value.the-variants.{Int, Float, Bool, Vector, Rotator, Quat, Color, Text}
 use Rattle.encoding.specs.Numbers.{byte, numberAt, u16At, bytesOf, splice, Written}
 use Rattle.encoding.specs.Wires.{wireAt, wireBytes, portRefBytes}
-use Rattle.encoding.specs.Values.{floatAt, compositeAt, valueAt, kindOf, floatBytes, threeBytes, fourBytes, valueBytes, headBytes, propertyBytes, PropertyBack}
+use Rattle.encoding.specs.Values.{floatAt, compositeOrTextAt, valueAt, kindOf, floatBytes, threeBytes, fourBytes, valueBytes, headBytes, propertyBytes, PropertyBack}
 use Rattle.ieee.proofs.Bits.{bitsOf-lt, ofBits-bitsOf}
+use Rattle.encoding.specs.Words.{heldCompositeOrText, heldValue}
+use Rattle.encoding.proofs.Sizes.{by-kind}
+use Rattle.encoding.proofs.Held.{kind-held}
 use Rattle.encoding.proofs.Splices.{splice-at}
 
 -- these bytes stand from an offset on
@@ -68,6 +75,7 @@ Stored (Vector x y z) = T (fits binary64 x) × T (fits binary64 y) × T (fits bi
 Stored (Rotator p y r) = T (fits binary64 p) × T (fits binary64 y) × T (fits binary64 r)
 Stored (Quat x y z w) = T (fits binary64 x) × T (fits binary64 y) × T (fits binary64 z) × T (fits binary64 w)
 Stored (Color r g b a) = T (fits binary64 r) × T (fits binary64 g) × T (fits binary64 b) × T (fits binary64 a)
+Stored (Text low high) = (low < 2 ^ 64) × (high < 2 ^ 64)
 
 module _ (x y z : IeeeFloat) (s : List ℕ) (i : ℕ) (h : Stands (threeBytes x y z) s i) where
   second-third : Stands (floatBytes y ++ floatBytes z) s (i + 8)
@@ -99,7 +107,7 @@ module _ (x y z w : IeeeFloat) (s : List ℕ) (i : ℕ) (h : Stands (fourBytes x
 
 -- THE LAW: reading the bytes of a value gives the value. A NaN is one: it is written 7FF8000000000000
 pub value-back : (v : Value) (s : List ℕ) (i : ℕ) → Stored v → Stands (valueBytes v) s i → valueAt (kindOf v) s i ≡ v
-unfolding valueAt compositeAt
+unfolding valueAt compositeOrTextAt
 value-back (Int n) s i f h = ap {B = Value} Int (ap fromBits (number-back 8 (ofZ w64 n) s i (ofZ-fits w64 n f .fits) h) ∙ toZ-ofZ f)
 value-back (Float x) s i f h = ap {B = Value} Float (float-back x s i f h)
 value-back (Bool true) s i f h = rw (byte-back 1 s i h)
@@ -112,17 +120,38 @@ value-back (Quat x y z w) s i f h =
 value-back (Color x y z w) s i f h =
     let t = first-three x y z w s i h in
     rw (three-1 x y z s i t (f .0), three-2 x y z s i t (f .1), three-3 x y z s i t (f .2), four-4 x y z w s i h (f .3))
+value-back (Text low high) s i f h =
+    let words : Stands (bytesOf 8 low ++ bytesOf 8 high) s (i + 1) = right (textLength low high ∷ []) (bytesOf 8 low ++ bytesOf 8 high) s i h (i + 1) refl in
+    rw (
+      number-back 8 low s (i + 1) (f .0) (left (bytesOf 8 low) (bytesOf 8 high) s (i + 1) words),
+      number-back 8 high s (i + 9) (f .1) (right (bytesOf 8 low) (bytesOf 8 high) s (i + 1) words (i + 9) (omega (arith, bytes-length 8 low))),
+    )
+
+-- ---- values that words hold
+
+module _ {a b c d : ℕ} (fa : a < 2 ^ 64) (fb : b < 2 ^ 64) (fc : c < 2 ^ 64) (fd : d < 2 ^ 64) where
+  float-held : (x : ℕ) → T (fits binary64 (ofBits binary64 x))
+  float-held x = ofBits-fits binary64 x
+
+  stored-held : (k : ℕ) → roleOf k ≡ Property → Stored (heldValue k a b c d)
+  unfolding heldValue heldCompositeOrText
+  stored-held =
+      by-kind (λ k. Stored (heldValue k a b c d)) (toZ-fits w64 a (record { fits = fa })) (float-held a) tt
+      (float-held a, float-held b, float-held c) (float-held a, float-held b, float-held c)
+      (float-held a, float-held b, float-held c, float-held d) (float-held a, float-held b, float-held c, float-held d)
+      (fa, fb)
+
+  -- a value that was written is read back
+  pub held-back : (k : ℕ) {l m : List ℕ} {at next : ℕ} → roleOf k ≡ Property → at + length (valueBytes (heldValue k a b c d)) ≤ length l → Written (valueBytes (heldValue k a b c d)) l m at next → Written (valueBytes (heldValue k a b c d)) l m at next × (valueAt k m at ≡ heldValue k a b c d)
+  held-back k {l} {m} {at} {next} e room w =
+      let v = heldValue k a b c d in
+      let back : valueAt (kindOf v) (splice l at (valueBytes v)) at ≡ v = value-back v _ at (stored-held k e) (splice-at l at (valueBytes v) room) in
+      (w, ap (λ (j : ℕ). valueAt j m at) (sym (kind-held a b c d k e)) ∙ ap (λ (s : List ℕ). valueAt (kindOf v) s at) (w .wrote) ∙ back)
 
 -- ---- records
 
--- a value that was written is read back
-pub written-back : {v u : Value} {l m : List ℕ} {at next : ℕ} → v ≡ u → Stored u → at + length (valueBytes v) ≤ length l → Written (valueBytes u) l m at next → Written (valueBytes v) l m at next × (valueAt (kindOf v) m at ≡ v)
-written-back {v} {u} {l} {m} {at} {next} e f room w =
-    let b : valueAt (kindOf u) (splice l at (valueBytes u)) at ≡ u = value-back u _ at f (splice-at l at (valueBytes u) (rw e at room)) in
-    rw e (w, ap (λ (s : List ℕ). valueAt (kindOf u) s at) (w .wrote) ∙ b)
-
-pub property-back : {node port : ℕ} {v : Value} {l s : List ℕ} {at next : ℕ} → at + length (propertyBytes node port v) ≤ length l → Written (propertyBytes node port v) l s at next → {past : ℕ} → past ≡ at + 4 → valueAt (kindOf v) s past ≡ v → node < 65536 → PropertyBack node port v s at
-property-back {node} {port} {v} {l} {s} {at} room w e given n =
+pub property-back : {node port : ℕ} {v : Value} {l s : List ℕ} {at next : ℕ} → at + length (propertyBytes node port v) ≤ length l → Written (propertyBytes node port v) l s at next → {past : ℕ} → past ≡ at + 4 → (k : ℕ) → kindOf v ≡ k → valueAt k s past ≡ v → node < 65536 → PropertyBack node port v s at
+property-back {node} {port} {v} {l} {s} {at} room w {past} e k f given n =
     let all : Stands (propertyBytes node port v) s at = rw (w .wrote) (splice-at l at (propertyBytes node port v) room) in
     let head : Stands ((kindOf v ∷ []) ++ bytesOf 2 node) s at = left (headBytes (kindOf v) node) (port ∷ valueBytes v) s at all in
     let rest : Stands ((port ∷ []) ++ valueBytes v) s (at + 3) = right (headBytes (kindOf v) node) (port ∷ valueBytes v) s at all (at + 3) (omega (arith, bytes-length 2 node)) in
@@ -131,7 +160,7 @@ property-back {node} {port} {v} {l} {s} {at} room w e given n =
       kind = kind;
       node-id = number-back 2 node s (at + 1) n (right (kindOf v ∷ []) (bytesOf 2 node) s at head (at + 1) refl);
       its-port = byte-back port s (at + 3) (left (port ∷ []) (valueBytes v) s (at + 3) rest);
-      value = ap (λ (k : ℕ). valueAt k s (at + 4)) kind ∙ ap (valueAt (kindOf v) s) (sym e) ∙ given;
+      value = ap (λ (k : ℕ). valueAt k s (at + 4)) kind ∙ ap (valueAt (kindOf v) s) (sym e) ∙ ap (λ (j : ℕ). valueAt j s past) f ∙ given;
     }
 
 pub wire-back : (w : Wire) {l s : List ℕ} {at next : ℕ} → at + 7 ≤ length l → Written (wireBytes w) l s at next → w .source .«node_id» < 65536 → w .target .«node_id» < 65536 → wireAt s at ≡ w

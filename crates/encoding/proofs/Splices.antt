@@ -1,7 +1,7 @@
 -- Bytes written at an offset: one after the other, and read back.
 use Prim.Native.Nat.{ℕ, suc, _+_, _≤_, _<_}
 use native.Mathlib.Omega.{arith}
-use mathlib.Core.Path.{_≡_, refl, sym, ap, ap₂, _∙_}
+use mathlib.Core.Path.{_≡_, refl, sym, ap, ap₂, subst, _∙_}
 use mathlib.Core.List.{List, [], _∷_, _++_, append-assoc}
 use lib.ListN.{length, getD, set, take, drop, length-append, length-drop, List·getD-append}
 use lib.Seq.{take-at, drop-append-add, drop-drop, length-take-le, sets, sets-eq, getD-append-add}
@@ -82,3 +82,6 @@ stored-8 l at a b c d e f g i h =
     let e6 : at + 6 ≡ suc (suc (suc (suc (suc (suc at))))) = omega arith in
     let e7 : at + 7 ≡ suc (suc (suc (suc (suc (suc (suc at)))))) = omega arith in
     rw (e1, e2, e3, e4, e5, e6, e7) (stored l at (a ∷ b ∷ c ∷ d ∷ e ∷ f ∷ g ∷ i ∷ []) h)
+
+pub same-written : {xs ys l m : List ℕ} {i j : ℕ} → xs ≡ ys → Written xs l m i j → Written ys l m i j
+same-written {l = l} {m = m} {i = i} {j = j} e w = subst (λ (bs : List ℕ). Written bs l m i j) e w

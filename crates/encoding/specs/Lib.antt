@@ -1,3 +1,4 @@
 pub mod Numbers
 pub mod Wires
 pub mod Values
+pub mod Words

@@ -1,12 +1,18 @@
 // Values, and the records of properties.
 use crate::numbers;
+use crate::words::Words;
 use ir::kind;
 use value::Value;
 ghost use mathlib.Core.Path.{_≡_};
 ghost use Prim.Native.Nat.{_+_, _≤_, _<_};
 ghost use lib.ListN.{length};
+ghost use mathlib.Core.Bool.{true};
+ghost use Rattle.ir.specs.Kinds.{roleOf, textKind};
+ghost use Rattle.text.specs.Listed.{textSize, isListedText};
+ghost use Rattle.ir.specs.declared.Role.{Role};
 ghost use Rattle.encoding.specs.Numbers.{Written};
-ghost use Rattle.encoding.specs.Values.{valueSize, floatAt, compositeAt, valueAt, kindOf, floatBytes, boolByte, threeBytes, fourBytes, valueBytes, propertyBytes, PropertyBack};
+ghost use Rattle.encoding.specs.Values.{valueSize, floatAt, textAt, compositeOrTextAt, valueAt, kindOf, floatBytes, boolByte, threeBytes, textBytes, valueBytes, propertyBytes, PropertyBack, TextRead};
+ghost use Rattle.encoding.specs.Words.{heldCompositeOrText, heldValue, heldBy};
 
 fn read_float(s: &[u8], at: usize) -> f64
     requires { ⌜ at + 8 ≤ length (now s) ⌝ }
@@ -16,8 +22,8 @@ fn read_float(s: &[u8], at: usize) -> f64
 }
 
 fn read_composite(kind: u8, s: &[u8], at: usize) -> Value
-    requires { ⌜ (at + 24 ≤ length (now s)) × (7 < kind → at + 32 ≤ length (now s)) × (5 < kind) ⌝ }
-    ensures { λ r. ⌜ r ≡ compositeAt kind (now (s .entry)) at ⌝ }
+    requires { ⌜ (5 < kind) × (kind < 10) × (at + valueSize kind ≤ length (now s)) ⌝ }
+    ensures { λ r. ⌜ r ≡ compositeOrTextAt kind (now (s .entry)) at ⌝ }
 {
     let x = read_float(s, at);
     let y = read_float(s, at + 8);
@@ -44,10 +50,21 @@ fn read_composite(kind: u8, s: &[u8], at: usize) -> Value
     }
 }
 
+// The text whose length and bytes stand at an offset. The bytes say the length.
+fn read_text(s: &[u8], at: usize) -> Value
+    requires { ⌜ at + textSize ≤ length (now s) ⌝ }
+    ensures { λ r. ⌜ r ≡ textAt (now (s .entry)) at ⌝ }
+{
+    let low = numbers::read_u64(s, at + 1);
+    let high = numbers::read_u64(s, at + 9);
+    Value::Text { low, high }
+}
+
 // The value of a kind whose bytes stand at an offset.
 pub fn read_value(kind: u8, s: &[u8], at: usize) -> Value
-    requires { ⌜ (3 ≤ kind) × (kind ≤ 9) × (at + valueSize kind ≤ length (now s)) ⌝ }
-    ensures { λ r. ⌜ r ≡ valueAt kind (now (s .entry)) at ⌝ }
+    requires { ⌜ (roleOf kind ≡ Role.Property) × (at + valueSize kind ≤ length (now s)) ⌝ }
+    ensures value { λ r. ⌜ r ≡ valueAt kind (now (s .entry)) at ⌝ }
+    ensures text { λ _. ⌜ (kind ≡ textKind → isListedText (now (s .entry)) at ≡ true → TextRead (now (s .entry)) at) ⌝ }
 {
     if kind == kind::INT {
         return Value::Int(whole::from_bits(numbers::read_u64(s, at)));
@@ -57,6 +74,9 @@ pub fn read_value(kind: u8, s: &[u8], at: usize) -> Value
     }
     if kind == kind::BOOL {
         return Value::Bool(s[at] == 1);
+    }
+    if kind == kind::TEXT {
+        return read_text(s, at);
     }
     read_composite(kind, s, at)
 }
@@ -86,6 +106,7 @@ pub fn kind_of(v: Value) -> u8
             b: _,
             a: _,
         } => kind::COLOR,
+        Value::Text { low: _, high: _ } => kind::TEXT,
     }
 }
 
@@ -113,45 +134,62 @@ fn write_three(out: &mut [u8], at: usize, x: f64, y: f64, z: f64) -> usize
     write_float(out, third, z)
 }
 
-fn write_four(out: &mut [u8], at: usize, x: f64, y: f64, z: f64, w: f64) -> usize
-    requires { ⌜ at + 32 ≤ length (now out) ⌝ }
-    ensures { λ r. ⌜ Written (fourBytes x y z w) (now (out .entry)) (now (out .exit)) at r ⌝ }
+fn write_text(out: &mut [u8], at: usize, low: u64, high: u64) -> usize
+    requires { ⌜ at + textSize ≤ length (now out) ⌝ }
+    ensures { λ r. ⌜ Written (textBytes low high) (now (out .entry)) (now (out .exit)) at r ⌝ }
 {
+    let length = text::length_of(low, high);
+    let past_length = numbers::write_byte(out, at, length);
+    let past_low = numbers::write_u64(out, past_length, low);
+    numbers::write_u64(out, past_low, high)
+}
+
+// The bytes of a composite of a kind that these words hold.
+fn write_composite(out: &mut [u8], at: usize, kind: u8, a: u64, b: u64, c: u64, d: u64) -> usize
+    requires { ⌜ (5 < kind) × (kind < 10) × (at + length (valueBytes (heldCompositeOrText kind a b c d)) ≤ length (now out)) ⌝ }
+    ensures { λ r. ⌜ Written (valueBytes (heldCompositeOrText kind a b c d)) (now (out .entry)) (now (out .exit)) at r ⌝ }
+{
+    let x = ieee::from_bits(a);
+    let y = ieee::from_bits(b);
+    let z = ieee::from_bits(c);
     let fourth = write_three(out, at, x, y, z);
+    if kind <= kind::ROTATOR {
+        return fourth;
+    }
+    let w = ieee::from_bits(d);
     write_float(out, fourth, w)
 }
 
-// The bytes of a value, without kind, node and port.
-pub fn write_bytes(out: &mut [u8], at: usize, v: Value) -> usize
-    requires { ⌜ at + length (valueBytes v) ≤ length (now out) ⌝ }
-    ensures written { λ r. ⌜ Written (valueBytes v) (now (out .entry)) (now (out .exit)) at r ⌝ }
-    ensures back { λ _. ⌜ valueAt (kindOf v) (now (out .exit)) at ≡ v ⌝ }
+// The bytes of the value of a kind that these words hold, without kind, node and port.
+pub fn write_bytes(out: &mut [u8], at: usize, kind: u8, a: u64, b: u64, c: u64, d: u64) -> usize
+    requires { ⌜ (roleOf kind ≡ Role.Property) × (at + length (valueBytes (heldValue kind a b c d)) ≤ length (now out)) ⌝ }
+    ensures written { λ r. ⌜ Written (valueBytes (heldValue kind a b c d)) (now (out .entry)) (now (out .exit)) at r ⌝ }
+    ensures back { λ _. ⌜ valueAt kind (now (out .exit)) at ≡ heldValue kind a b c d ⌝ }
 {
-    match v {
-        Value::Int(n) => {
-            let bits = whole::to_bits(n);
-            numbers::write_u64(out, at, bits)
-        }
-        Value::Float(x) => write_float(out, at, x),
-        Value::Bool(b) => {
-            let byte = bool_byte(b);
-            numbers::write_byte(out, at, byte)
-        }
-        Value::Vector { x, y, z } => write_three(out, at, x, y, z),
-        Value::Rotator { pitch, yaw, roll } => write_three(out, at, pitch, yaw, roll),
-        Value::Quat { x, y, z, w } => write_four(out, at, x, y, z, w),
-        Value::Color { r, g, b, a } => write_four(out, at, r, g, b, a),
+    if kind == kind::FLOAT {
+        let x = ieee::from_bits(a);
+        return write_float(out, at, x);
     }
+    if kind == kind::INT {
+        return numbers::write_u64(out, at, a);
+    }
+    if kind == kind::BOOL {
+        let byte = bool_byte(a == 1);
+        return numbers::write_byte(out, at, byte);
+    }
+    if kind <= kind::COLOR {
+        return write_composite(out, at, kind, a, b, c, d);
+    }
+    write_text(out, at, a, b)
 }
 
 // The record of a property.
-pub fn write_value(out: &mut [u8], at: usize, node: usize, port: u8, v: Value) -> usize
-    requires { ⌜ at + length (propertyBytes node port v) ≤ length (now out) ⌝ }
-    ensures written { λ r. ⌜ Written (propertyBytes node port v) (now (out .entry)) (now (out .exit)) at r ⌝ }
-    ensures back { λ _. ⌜ (node < 65536 → PropertyBack node port v (now (out .exit)) at) ⌝ }
+pub fn write_value(out: &mut [u8], at: usize, node: usize, port: u8, kind: u8, w: Words) -> usize
+    requires { ⌜ (roleOf kind ≡ Role.Property) × (at + length (propertyBytes node port (heldBy kind w)) ≤ length (now out)) ⌝ }
+    ensures written { λ r. ⌜ Written (propertyBytes node port (heldBy kind w)) (now (out .entry)) (now (out .exit)) at r ⌝ }
+    ensures back { λ _. ⌜ (node < 65536 → PropertyBack node port (heldBy kind w) (now (out .exit)) at) ⌝ }
 {
-    let kind = kind_of(v);
     let past_node = numbers::write_head(out, at, kind, node);
     let past_port = numbers::write_byte(out, past_node, port);
-    write_bytes(out, past_port, v)
+    write_bytes(out, past_port, kind, w.a, w.b, w.c, w.d)
 }

@@ -93,10 +93,10 @@ module _ {input before after : List ℕ} {r : Outcome} (A : Answers outcome inpu
   unfolding numbersOf
   refuse-numbers n p q = (ap (λ (m : Numbers). m .number) (numbers-kept ∙ ap numbersOf q), ap (λ (m : Numbers). m .place) (numbers-kept ∙ ap numbersOf q))
 
-  given : (o : Result) → outcome input room ≡ o → numbers r .number ≤ 10
+  given : (o : Result) → outcome input room ≡ o → (numbers r .number ≤ 10) ⊎ (numbers r .number ≡ 12)
   unfolding numbersOf
-  given (folds x k) q = omega (arith, ap (λ (m : Numbers). m .number) (numbers-kept ∙ ap numbersOf q))
-  given (refuses n p) q = omega (arith, refusal-number input room n p q, ap (λ (m : Numbers). m .number) (numbers-kept ∙ ap numbersOf q))
+  given (folds x k) q = inl (omega (arith, ap (λ (m : Numbers). m .number) (numbers-kept ∙ ap numbersOf q)))
+  given (refuses n p) q = rw (ap (λ (m : Numbers). m .number) (numbers-kept ∙ ap numbersOf q)) (refusal-number input room n p q .1)
 
   pub refusals-kept : Refusals input room (numbers r)
   refusals-kept =
@@ -105,8 +105,13 @@ module _ {input before after : List ℕ} {r : Outcome} (A : Answers outcome inpu
         given = given _ refl;
       }
 
+  -- neither 9 nor 10 is the number of a question that decoding asks
+  by-questions : {n : ℕ} → (n ≤ 8) ⊎ (n ≡ 12) → 8 < n → n < 12 → ⊥
+  by-questions (inl l) h k = omega arith
+  by-questions (inr e) h k = omega arith
+
   endless-of : (n p : ℕ) → n ≡ 9 → Refused input room n p → EndlessAt input p
-  endless-of n p e (Refused.decoding d) = absurd (omega (arith, refused-number input n p d))
+  endless-of n p e (Refused.decoding d) = absurd (by-questions (refused-number input n p d .1) (omega arith) (omega arith))
   endless-of n p e (Refused.rewriting {g = g} {i = i} d f) =
       let z : g ≡ graphOf input = graph-of input d in
       let first = subst (λ (h : Graph). FirstEndless (planOf h) (h .wires) i) z f in
@@ -120,7 +125,7 @@ module _ {input before after : List ℕ} {r : Outcome} (A : Answers outcome inpu
 
   many-of : (n p : ℕ) → n ≡ 10 → maxAnswer ≤ room → Refused input room n p → TooManyWires (graphOf input)
   unfolding size
-  many-of n p e m (Refused.decoding d) = absurd (omega (arith, refused-number input n p d))
+  many-of n p e m (Refused.decoding d) = absurd (by-questions (refused-number input n p d .1) (omega arith) (omega arith))
   many-of n p e m (Refused.rewriting d f) = absurd (omega arith)
   many-of n p e m (Refused.writing {g = g} {ws = ws} d q l) = subst TooManyWires (graph-of input d) (record { wires = ws; rewritten = q; many = go l (decLt maxWires (length ws)) })
     where

@@ -4,7 +4,7 @@ use mathlib.Core.Path.{_≡_}
 use mathlib.Core.Bool.{true}
 use mathlib.Core.List.{List, []}
 use mathlib.Core.Option.{none, some}
-use mathlib.Core.Logic.{_↔_}
+use mathlib.Core.Logic.{_⊎_, _↔_}
 use lib.ListN.{length, getD}
 use Rattle.ir.specs.Limits.{maxWires}
 use Rattle.ir.specs.Classes.{foldingOf}
@@ -25,10 +25,10 @@ use Rattle.model.specs.Answer.{answer}
 use Rattle.model.specs.Outcome.{wireOffset, Numbers}
 use Rattle.model.specs.Demands.{foldOf, planOf, Refused, FirstEndless, Clean}
 
--- demand 1: refused with a number and a place exactly where document 01 has that number and place for the input, and with none beyond 10
+-- demand 1: refused with a number and a place exactly where document 01 has that number and place for the input, and with 1 to 10 or 12 alone
 pub record Refusals (input : List ℕ) (room : ℕ) (r : Numbers) : Type 0 where
   pub exactly : (n p : ℕ) → 1 ≤ n → ((r .number ≡ n) × (r .place ≡ p)) ↔ Refused input room n p
-  pub given : r .number ≤ 10
+  pub given : (r .number ≤ 10) ⊎ (r .number ≡ 12)
 
 -- "place the offset of the first such wire record": the record there is that wire's
 pub record EndlessAt (input : List ℕ) (place : ℕ) : Type 0 where

@@ -3,9 +3,11 @@
 use Prim.Native.Nat.{ℕ, zero, suc, _+_}
 use mathlib.Core.Bool.{cond, _&&_}
 use mathlib.Core.List.{List, [], _∷_}
-use lib.Dec.{ltb, leb}
+use lib.Dec.{eqb, ltb, leb}
 use lib.Ieee.{Float, nan}
 use Rattle.whole.specs.declared.OptionFloat.{OptionFloat}
+use Rattle.ir.specs.Kinds.{textKind}
+use Rattle.ir.specs.Variants.{textVariant}
 use Rattle.value.specs.declared.Operand.{Operand}
 use Rattle.value.specs.declared.OptionValue.{OptionValue}
 use Rattle.value.specs.Variants.{variantOf}
@@ -13,10 +15,14 @@ use Rattle.encoding.specs.Numbers.{byte, splice}
 use Rattle.encoding.specs.Values.{valueAt, valueBytes}
 use Rattle.semantics.specs.Eval.{evalOf}
 
--- the operand at an offset; variants 1 to 7 are those of the record kinds 03 to 09
+-- variants 1 to 7 are those of the record kinds 03 to 09, 8 that of 0C
+abbrev pub variantKind : ℕ → ℕ
+variantKind variant = cond (eqb variant textVariant) textKind (variant + 2)
+
+-- the operand at an offset
 unfoldable pub operandAt : List ℕ → ℕ → Operand
 operandAt s at =
-    cond (ltb 0 (byte s at) && leb (byte s at) 7) (Operand.Known (valueAt (byte s at + 2) s (at + 1))) Operand.Unwired
+    cond (ltb 0 (byte s at) && leb (byte s at) textVariant) (Operand.Known (valueAt (variantKind (byte s at)) s (at + 1))) Operand.Unwired
 
 abbrev pub givenOf : List ℕ → OptionValue
 givenOf s = evalOf (byte s 0) (operandAt s 1) (operandAt s 34) (operandAt s 67)

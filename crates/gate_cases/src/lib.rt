@@ -4,13 +4,29 @@ ghost use Prim.Native.Nat.{_+_, _≤_};
 ghost use lib.Ieee as Ieee;
 ghost use lib.Ieee.{binary64};
 ghost use lib.ListN.{length};
-ghost use Rattle.gate_cases.specs.Cases.{operandAt, givenOf, zeros, answerBytes, orNan};
+ghost use Rattle.ir.specs.Variants.{textVariant};
+ghost use Rattle.gate_cases.specs.Cases.{variantKind, operandAt, givenOf, zeros, answerBytes, orNan};
 ghost use Rattle.root.specs.Sqrt.{sqrtOf};
 use encoding::numbers;
 use encoding::values;
+use encoding::words;
+use ir::kind;
+use ir::variant;
 use value::Operand;
 use value::OptionValue;
 use whole::OptionFloat;
+
+// The record kind of a variant.
+fn kind_of(variant: u8) -> u8
+    requires { ⌜ variant ≤ textVariant ⌝ }
+    ensures { λ r. ⌜ r ≡ variantKind variant ⌝ }
+{
+    if variant == variant::TEXT {
+        kind::TEXT
+    } else {
+        variant + 2
+    }
+}
 
 // The operand at an offset.
 fn operand_at(case: &[u8], at: usize) -> Operand
@@ -21,10 +37,10 @@ fn operand_at(case: &[u8], at: usize) -> Operand
     if variant == 0 {
         return Operand::Unwired;
     }
-    if 7 < variant {
+    if variant::TEXT < variant {
         return Operand::Unwired;
     }
-    Operand::Known(values::read_value(variant + 2, case, at + 1))
+    Operand::Known(values::read_value(kind_of(variant), case, at + 1))
 }
 
 // What a gate gives, into an answer of zeros.
@@ -36,7 +52,9 @@ fn write_given(answer: &mut [u8; 33], given: OptionValue)
         OptionValue::None => {}
         OptionValue::Some(v) => {
             numbers::write_byte(answer, 0, value::variant_of(v));
-            values::write_bytes(answer, 1, v);
+            let kind = values::kind_of(v);
+            let w = words::words_of(v);
+            values::write_bytes(answer, 1, kind, w.a, w.b, w.c, w.d);
         }
     }
 }

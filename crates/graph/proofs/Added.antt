@@ -8,15 +8,19 @@ use mathlib.Core.List.{List, [], _∷_}
 use lib.ListN.{length, getD, set, length-set}
 use lib.Seq.{getD-set-same, getD-set-other}
 use lib.Dec.{leb, eqb, eqb·suc-zero}
-use borrow.Author.Tests.{ne-eqb, eqb-true, eqb-false, ltb-true, leb-true}
+use borrow.Author.Tests.{eq-eqb, ne-eqb, eqb-true, eqb-false, ltb-true, leb-true}
 use Rattle.ir.specs.Classes.{isAnnihilator}
+use Rattle.ir.specs.Kinds.{roleOf, textKind}
+use Rattle.ir.specs.Variants.{textVariant}
 use Rattle.ir.specs.declared.Role.the-variants.{Property as PropertyRole}
 use Rattle.value.specs.declared.Value.{Value}
 use Rattle.value.specs.declared.OptionValue.{OptionValue}
 use Rattle.value.specs.declared.OptionValue.the-variants.{None, Some}
+use Rattle.value.specs.Variants.{variantOf}
 use Rattle.encoding.specs.Numbers.{byte, u16At}
-use Rattle.encoding.specs.Values.{valueAt}
-use Rattle.graph.specs.Graph.{propertyAt, snoc, lookup, member}
+use Rattle.encoding.specs.Values.{compositeOrTextAt, valueAt}
+use Rattle.encoding.proofs.Sizes.{by-kind}
+use Rattle.graph.specs.Graph.{propertyAt, snoc, lookup, member, texts}
 use Rattle.graph.specs.Layout.{roleAt, sizeAt}
 use Rattle.graph.specs.Questions.{isNone}
 use Rattle.graph.specs.Index.{slot, entryValue, IsProperty, Indexed, Sound}
@@ -101,6 +105,40 @@ module _ (ps : List Property) (s : List ℕ) (at : ℕ) (table : List ℕ) (held
   unfolding here
   indexed-more =
       record { long = length-set table here at ∙ held .long; says = λ n p a c. says n p a c _ _ refl refl; stands = stands }
+
+-- ---- texts
+
+texts-snoc : (ps : List Property) (p : Property) → texts (snoc ps p) ≡ cond (eqb (variantOf (p .value)) textVariant) 1 0 + texts ps
+unfolding texts
+texts-snoc [] p = refl
+texts-snoc (q ∷ ps) p = ap (λ (n : ℕ). cond (eqb (variantOf (q .value)) textVariant) 1 0 + n) (texts-snoc ps p) ∙ swap (cond (eqb (variantOf (q .value)) textVariant) 1 0) (cond (eqb (variantOf (p .value)) textVariant) 1 0) (texts ps)
+  where
+    swap : (a b c : ℕ) → a + (b + c) ≡ b + (a + c)
+    swap a b c = omega arith
+
+pub few-texts : (ps : List Property) → texts ps ≤ length ps
+unfolding texts
+few-texts [] = omega arith
+few-texts (p ∷ ps) = pick (few-texts ps) (eqb (variantOf (p .value)) textVariant)
+  where
+    pick : texts ps ≤ length ps → (b : Bool) → cond b 1 0 + texts ps ≤ suc (length ps)
+    pick h true = omega arith
+    pick h false = omega arith
+
+-- a property is a text where its kind is 0C
+text-value : (s : List ℕ) (i k : ℕ) → roleOf k ≡ PropertyRole → eqb (variantOf (valueAt k s i)) textVariant ≡ eqb k textKind
+unfolding valueAt compositeOrTextAt
+text-value s i = by-kind (λ k. eqb (variantOf (valueAt k s i)) textVariant ≡ eqb k textKind) refl refl refl refl refl refl refl refl
+
+module _ (ps : List Property) (s : List ℕ) (at : ℕ) (r : roleAt s at ≡ PropertyRole) where
+  texts-more : texts (snoc ps (propertyAt s at)) ≡ cond (eqb (byte s at) textKind) 1 0 + texts ps
+  texts-more = texts-snoc ps (propertyAt s at) ∙ ap (λ (b : Bool). cond b 1 0 + texts ps) (text-value s (at + 4) (byte s at) r)
+
+  pub one-text : byte s at ≡ textKind → texts (snoc ps (propertyAt s at)) ≡ texts ps + 1
+  one-text e = texts-more ∙ ap (λ (b : Bool). cond b 1 0 + texts ps) (eq-eqb (byte s at) textKind e) ∙ omega arith
+
+  pub no-text : (byte s at ≡ textKind → ⊥) → texts (snoc ps (propertyAt s at)) ≡ texts ps
+  no-text n = texts-more ∙ ap (λ (b : Bool). cond b 1 0 + texts ps) (ne-eqb (byte s at) textKind n) ∙ omega arith
 
 -- ---- an entry of the table
 

@@ -5,15 +5,15 @@ use mathlib.Core.Path.{_≡_, refl, sym, ap, ap₂, _∙_}
 use mathlib.Core.Bool.{Bool, true, false, cond, _&&_}
 use mathlib.Core.List.{List, [], _∷_}
 use lib.ListN.{length}
-use lib.Dec.{ltb, eqb}
-use borrow.Author.Tests.{leb-true, ltb-true, le-leb, eq-eqb}
+use lib.Dec.{ltb}
+use borrow.Author.Tests.{leb-true, ltb-true, le-leb}
 use Rattle.ir.specs.Kinds.{roleOf}
 use Rattle.ir.specs.declared.Role.{Role}
 use Rattle.ir.specs.declared.Role.the-variants.{Unlisted, Node, Wire, Property, Row, Annihilator}
 use Rattle.encoding.specs.Numbers.{byte}
 use Rattle.graph.specs.Graph.{Graph, countsOf}
 use Rattle.graph.specs.Layout.{roleAt, sizeAt, sizeOf}
-use Rattle.graph.specs.Questions.{Context, Question, questions, firstNo, isKind, isListed, hasNodes, isFirst, hasRoom}
+use Rattle.graph.specs.Questions.{Context, Question, questions, firstNo, isKind, isListed, hasListedText, ordersNoText, hasNodes, isFirst, hasRoom}
 use Rattle.graph.specs.Decode.{refusalAt}
 use Rattle.graph.specs.Index.{Held, Next}
 use Rattle.graph.specs.declared.Counts.{Counts}
@@ -57,6 +57,8 @@ pub record Passed (last : ℕ) (g : Graph) (s : List ℕ) (at : ℕ) : Type 0 wh
   pub kind : isKind (roleAt s at) ≡ true
   pub whole : at + sizeAt s at ≤ length s
   pub listed : isListed (roleAt s at) s at ≡ true
+  pub text : hasListedText s at ≡ true
+  pub ordered : ordersNoText (roleAt s at) s at ≡ true
   pub rises : last ≤ byte s at
   pub there : hasNodes (length (g .nodes)) (roleAt s at) s at ≡ true
   pub new : isFirst g (roleAt s at) s at ≡ true
@@ -70,10 +72,12 @@ passed last g s at e =
       kind = h .0;
       whole = leb-true _ _ (h .1 .0);
       listed = h .1 .1 .0;
-      rises = leb-true _ _ (h .1 .1 .1 .0);
-      there = h .1 .1 .1 .1 .0;
-      new = h .1 .1 .1 .1 .1 .0;
-      fits = h .1 .1 .1 .1 .1 .1 .0;
+      text = h .1 .1 .1 .0;
+      ordered = h .1 .1 .1 .1 .0;
+      rises = leb-true _ _ (h .1 .1 .1 .1 .1 .0);
+      there = h .1 .1 .1 .1 .1 .1 .0;
+      new = h .1 .1 .1 .1 .1 .1 .1 .0;
+      fits = h .1 .1 .1 .1 .1 .1 .1 .1 .0;
     }
 
 -- .. and such a record is not refused
@@ -83,6 +87,8 @@ asked last g s at p =
     passes _ _ _ (p .kind)
     ∙ passes _ _ _ (le-leb _ _ (p .whole))
     ∙ passes _ _ _ (p .listed)
+    ∙ passes _ _ _ (p .text)
+    ∙ passes _ _ _ (p .ordered)
     ∙ passes _ _ _ (le-leb _ _ (p .rises))
     ∙ passes _ _ _ (p .there)
     ∙ passes _ _ _ (p .new)
@@ -98,8 +104,8 @@ listed-kind Row s at e = refl
 listed-kind Annihilator s at e = refl
 
 -- one more record of a kind
-pub next-of : {kind size : ℕ} {role : Role} {c : Counts} {s : List ℕ} {at : ℕ} {table : List ℕ} → role ≡ roleOf kind → size ≡ sizeOf kind → at + size ≤ length s → byte s at ≡ kind → isListed role s at ≡ true → hasNodes (c .nodes) role s at ≡ true → hasRoom c role ≡ true → ((g : Graph) → Held g c s table → isFirst g role s at ≡ true) → Next kind c s at table
-next-of {kind} {size} {role} {c} {s} {at} r z w k l n f new =
+pub next-of : {kind size : ℕ} {role : Role} {c : Counts} {s : List ℕ} {at : ℕ} {table : List ℕ} → role ≡ roleOf kind → size ≡ sizeOf kind → at + size ≤ length s → byte s at ≡ kind → isListed role s at ≡ true → ordersNoText role s at ≡ true → hasNodes (c .nodes) role s at ≡ true → hasRoom c role ≡ true → ((g : Graph) → Held g c s table → isFirst g role s at ≡ true) → hasListedText s at ≡ true → Next kind c s at table
+next-of {kind} {size} {role} {c} {s} {at} r z w k l o n f new t =
     let q : role ≡ roleAt s at = r ∙ ap roleOf (sym k) in
     let long : sizeAt s at ≡ sizeOf kind = ap sizeOf k in
     record {
@@ -110,6 +116,8 @@ next-of {kind} {size} {role} {c} {s} {at} r z w k l n f new =
             kind = listed-kind (roleAt s at) s at (rw q at l);
             whole = omega arith;
             listed = rw q at l;
+            text = t;
+            ordered = rw q at o;
             rises = omega arith;
             there = rw (h .counts, q) at n;
             new = rw q at (new g h);
@@ -132,11 +140,14 @@ module _ {kind size : ℕ} {role : Role} {c : Counts} {s : List ℕ} {at : ℕ} 
   four : {a b d e : Bool} → a ≡ true → b ≡ true → d ≡ true → e ≡ true → (((a && b) && d) && e) ≡ true
   four p q u v = rw (p, q, u, v) refl
 
-  pub next-tests : {l m f : Bool} → l ≡ isListed role s at → m ≡ hasNodes (c .nodes) role s at → f ≡ hasRoom c role → (((eqb (byte s at) kind && l) && m) && f) ≡ true
-  next-tests p q u =
-      four (eq-eqb _ _ (n .kind-byte)) (p ∙ ap (λ (o : Role). isListed o s at) here ∙ yes-to-all .listed)
+  pub next-tests : {l t m f : Bool} → l ≡ isListed role s at → t ≡ ordersNoText role s at → m ≡ hasNodes (c .nodes) role s at → f ≡ hasRoom c role → (((l && t) && m) && f) ≡ true
+  next-tests p k q u =
+      four (p ∙ ap (λ (o : Role). isListed o s at) here ∙ yes-to-all .listed) (k ∙ ap (λ (o : Role). ordersNoText o s at) here ∙ yes-to-all .ordered)
       (q ∙ ap₂ (λ (k : ℕ) (o : Role). hasNodes k o s at) (ap (λ (d : Counts). d .nodes) (h .counts)) here ∙ yes-to-all .there)
       (u ∙ ap₂ hasRoom (h .counts) here ∙ yes-to-all .fits)
 
   pub next-first : isFirst g role s at ≡ true
   next-first = rw here (yes-to-all .new)
+
+  pub next-text : hasListedText s at ≡ true
+  next-text = yes-to-all .text

@@ -27,7 +27,7 @@ abbrev rule : ℕ → Role → ℕ → Bool
 rule k Unlisted body = true
 rule k Node body = eqb k 1 && eqb body 2
 rule k Wire body = eqb k 2 && eqb body 6
-rule k Property body = leb 3 k && (leb k 9 && leb 4 body)
+rule k Property body = leb 4 body
 rule k Row body = eqb k 10 && eqb body 4
 rule k Annihilator body = eqb k 11 && eqb body 1
 
@@ -42,9 +42,9 @@ from (x ∷ xs) i t (suc k) h =
     rw (add-suc, ← suc-add) (from xs (suc i) (and-right (rule i (x .role) (x .body)) (every (suc i) xs) t) k (omega arith))
 
 ruled : (k : ℕ) → rule k (roleOf k) (bodyOf k) ≡ true
-ruled k = pick (decLt k 12)
+ruled k = pick (decLt k 13)
   where
-    pick : Dec (k < 12) → rule k (roleOf k) (bodyOf k) ≡ true
+    pick : Dec (k < 13) → rule k (roleOf k) (bodyOf k) ≡ true
     pick (yes h) = rw zero-add at (from kinds 0 refl k h)
     pick (no h) = rw (List·getD-eq-default kinds unlisted {n = k} (omega arith))
 
@@ -75,10 +75,6 @@ row-kind k e = of k 10 4 (by-role k e)
 pub annihilator-kind : (k : ℕ) → roleOf k ≡ Annihilator → Of k 11 2
 annihilator-kind k e = of k 11 1 (by-role k e)
 
-pub property-kind : (k : ℕ) → roleOf k ≡ Property → (3 ≤ k) × (k ≤ 9)
-property-kind k e =
-    (leb-true 3 k (and-left (leb 3 k) _ (by-role k e)), leb-true k 9 (and-left (leb k 9) _ (and-right (leb 3 k) _ (by-role k e))))
-
 -- a record is at least as long as its role says
 pub size-by : (k : ℕ) → sizeBy (roleOf k) ≤ sizeOf k
 size-by k = pick (roleOf k) refl
@@ -88,6 +84,6 @@ size-by k = pick (roleOf k) refl
     pick Node e = omega (arith, node-kind k e .long)
     pick Wire e = omega (arith, wire-kind k e .long)
     pick Property e =
-        omega (arith, leb-true 4 (bodyOf k) (and-right (leb k 9) _ (and-right (leb 3 k) _ (by-role k e))))
+        omega (arith, leb-true 4 (bodyOf k) (by-role k e))
     pick Row e = omega (arith, row-kind k e .long)
     pick Annihilator e = omega (arith, annihilator-kind k e .long)

@@ -4,11 +4,13 @@ use mathlib.Core.Bool.{Bool, false, cond, _&&_, _||_}
 use mathlib.Core.List.{List, [], _∷_, _++_}
 use lib.Dec.{eqb}
 use lib.ListN.{length}
+use Rattle.ir.specs.Variants.{textVariant}
 use Rattle.ir.specs.declared.Role.{Role}
 use Rattle.ir.specs.declared.Role.the-variants.{Unlisted as NoRole, Node as NodeRole, Wire as WireRole, Property as PropertyRole, Row as RowRole, Annihilator as AnnihilatorRole}
 use Rattle.ir.specs.declared.Wire.{Wire}
 use Rattle.value.specs.declared.OptionValue.{OptionValue}
 use Rattle.value.specs.declared.OptionValue.the-variants.{None, Some}
+use Rattle.value.specs.Variants.{variantOf}
 use Rattle.encoding.specs.Numbers.{byte, u16At}
 use Rattle.encoding.specs.Wires.{wireAt}
 use Rattle.encoding.specs.Values.{valueAt}
@@ -82,6 +84,11 @@ unfoldable pub member : ℕ → List ℕ → Bool
 member x [] = false
 member x (y ∷ ys) = eqb y x || member x ys
 
+-- how many properties are texts
+unfoldable pub texts : List Property → ℕ
+texts [] = 0
+texts (p ∷ ps) = cond (eqb (variantOf (p .value)) textVariant) 1 0 + texts ps
+
 -- what is counted of a graph
 abbrev pub countsOf : Graph → Counts
 countsOf g =
@@ -89,6 +96,7 @@ countsOf g =
       nodes = length (g .nodes);
       wires = length (g .wires);
       properties = length (g .properties);
+      texts = texts (g .properties);
       rows = length (g .rows);
       annihilators = length (g .annihilators);
       «and_false» = member 12 (g .annihilators);

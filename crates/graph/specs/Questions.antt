@@ -1,10 +1,12 @@
--- Document 01, "Questions at the door", 2 to 8: "for each record from the front".
+-- Document 01, "Questions at the door", 2 to 8 and 12: "for each record from the front".
 use Prim.Native.Nat.{ℕ, _+_}
 use mathlib.Core.Bool.{Bool, true, false, cond, not, _&&_, _||_}
 use mathlib.Core.List.{List, [], _∷_}
 use lib.Dec.{ltb, leb, eqb}
 use lib.ListN.{length}
-use Rattle.ir.specs.Classes.{isClass, foldingOf, inputCount, hasRows, isAnnihilator}
+use Rattle.ir.specs.Kinds.{textKind}
+use Rattle.ir.specs.Variants.{textVariant}
+use Rattle.ir.specs.Classes.{isClass, isOrder, foldingOf, inputCount, hasRows, isAnnihilator}
 use Rattle.ir.specs.Flags.{isFlags}
 use Rattle.ir.specs.Limits.{maxNodes, maxWires, maxProperties, maxRows}
 use Rattle.ir.specs.Ports.{valuePort}
@@ -12,6 +14,7 @@ use Rattle.ir.specs.declared.Role.{Role}
 use Rattle.ir.specs.declared.Role.the-variants.{Unlisted, Node, Wire, Property, Row, Annihilator}
 use Rattle.value.specs.declared.OptionValue.{OptionValue}
 use Rattle.value.specs.declared.OptionValue.the-variants.{None, Some}
+use Rattle.text.specs.Listed.{isListedText}
 use Rattle.encoding.specs.Numbers.{byte, u16At}
 use Rattle.graph.specs.Graph.{Graph, lookup, member, countsOf}
 use Rattle.graph.specs.Layout.{roleAt, sizeAt}
@@ -24,7 +27,7 @@ pub record Context : Type 0 where
   pub last : ℕ
   pub graph : Graph
 
--- 2. "Is the kind 01 to 0B?"
+-- 2. "Is the kind 01 to 0C?"
 abbrev pub isKind : Role → Bool
 isKind Unlisted = false
 isKind Node = true
@@ -37,7 +40,7 @@ isKind Annihilator = true
 abbrev pub isWhole : List ℕ → ℕ → Bool
 isWhole s at = leb (at + sizeAt s at) (length s)
 
--- 4. "Is every class, flag, port, variant and Bool byte one listed for its kind?"
+-- 4. "Is every class, flag, port, variant and Bool byte one listed for its kind, and a text's length and each of its bytes?"
 abbrev pub isWirePort : ℕ → Bool
 isWirePort port = ltb port valuePort
 
@@ -48,9 +51,9 @@ isPropertyPort port = leb port valuePort
 abbrev pub isValueByte : ℕ → ℕ → Bool
 isValueByte kind b = not (eqb kind 5) || leb b 1
 
--- "Variants: 0 Unwired, .., 7 Color; places past the input count are 0, which question 4 checks"
+-- "Variants: 0 Unwired, .., 8 Text; places past the input count are 0, which question 4 checks"
 abbrev pub isVariant : ℕ → ℕ → ℕ → Bool
-isVariant inputs place variant = cond (ltb place inputs) (leb variant 7) (eqb variant 0)
+isVariant inputs place variant = cond (ltb place inputs) (leb variant textVariant) (eqb variant 0)
 
 abbrev pub isListed : Role → List ℕ → ℕ → Bool
 isListed Unlisted s at = false
@@ -65,6 +68,19 @@ isListed Row s at =
     && isVariant inputs 1 (byte s (at + 3))
     && isVariant inputs 2 (byte s (at + 4))
 isListed Annihilator s at = isAnnihilator (byte s (at + 1))
+
+-- a text's length and bytes stand past its node and port
+abbrev pub hasListedText : List ℕ → ℕ → Bool
+hasListedText s at = cond (eqb (byte s at) textKind) (isListedText s (at + 4)) true
+
+-- 12. "Does no row of classes 8 to 11 name variant 8?"
+abbrev pub ordersNoText : Role → List ℕ → ℕ → Bool
+ordersNoText Unlisted s at = true
+ordersNoText Node s at = true
+ordersNoText Wire s at = true
+ordersNoText Property s at = true
+ordersNoText Row s at = not (isOrder (byte s (at + 1)) && (eqb (byte s (at + 2)) textVariant || eqb (byte s (at + 3)) textVariant || eqb (byte s (at + 4)) textVariant))
+ordersNoText Annihilator s at = true
 
 -- 5. "Is its kind at least the one before?"
 abbrev pub isInOrder : ℕ → List ℕ → ℕ → Bool
@@ -109,12 +125,14 @@ pub record Question : Type 0 where
 abbrev role : Context → Role
 role x = roleAt (x .input) (x .at)
 
--- the questions in their order
+-- the questions in their order; 4 is asked of a record's listed bytes, then of its text
 abbrev pub questions : List Question
 questions =
     record { number = 2; holds = λ x. isKind (role x) }
     ∷ record { number = 3; holds = λ x. isWhole (x .input) (x .at) }
     ∷ record { number = 4; holds = λ x. isListed (role x) (x .input) (x .at) }
+    ∷ record { number = 4; holds = λ x. hasListedText (x .input) (x .at) }
+    ∷ record { number = 12; holds = λ x. ordersNoText (role x) (x .input) (x .at) }
     ∷ record { number = 5; holds = λ x. isInOrder (x .last) (x .input) (x .at) }
     ∷ record { number = 6; holds = λ x. hasNodes (length (x .graph .nodes)) (role x) (x .input) (x .at) }
     ∷ record { number = 7; holds = λ x. isFirst (x .graph) (role x) (x .input) (x .at) }

@@ -5,7 +5,7 @@ use Rattle.graph.specs.Graph.{countsOf}
 use Rattle.graph.specs.Decode.{Verdict, accepted, refused}
 use Rattle.graph.specs.declared.Counts.{Counts}
 use Rattle.graph.specs.declared.Refusal.{Refusal}
-use Rattle.graph.specs.declared.Refusal.the-variants.{TooLong, UnknownKind, CutOff, Unlisted, OutOfOrder, MissingNode, Repeated, TooMany}
+use Rattle.graph.specs.declared.Refusal.the-variants.{TooLong, UnknownKind, CutOff, Unlisted, OrdersText, OutOfOrder, MissingNode, Repeated, TooMany}
 use Rattle.graph.specs.declared.OptionRefusal.{OptionRefusal}
 use Rattle.graph.specs.declared.OptionRefusal.the-variants.{None, Some}
 use Rattle.graph.specs.declared.Decoded.{Decoded}
@@ -16,6 +16,7 @@ numberOf TooLong = 1
 numberOf (UnknownKind at) = 2
 numberOf (CutOff at) = 3
 numberOf (Unlisted at) = 4
+numberOf (OrdersText at) = 12
 numberOf (OutOfOrder at) = 5
 numberOf (MissingNode at) = 6
 numberOf (Repeated at) = 7
@@ -26,6 +27,7 @@ placeOf TooLong = 0
 placeOf (UnknownKind at) = at
 placeOf (CutOff at) = at
 placeOf (Unlisted at) = at
+placeOf (OrdersText at) = at
 placeOf (OutOfOrder at) = at
 placeOf (MissingNode at) = at
 placeOf (Repeated at) = at

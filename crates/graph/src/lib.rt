@@ -1,4 +1,4 @@
-// What document 01's records say: the types of the graph's lists, questions 2 to 8 of one record, and what it adds.
+// What document 01's records say: the types of the graph's lists, questions 2 to 8 and 12 of one record, and what it adds.
 pub mod question;
 pub mod refusals;
 pub mod scan;
@@ -23,11 +23,12 @@ pub struct Row {
     pub third: u8,
 }
 
-// How many records of each role an input has, and which annihilators.
+// How many records of each role an input has, how many of its properties are texts, and which annihilators.
 pub struct Counts {
     pub nodes: usize,
     pub wires: usize,
     pub properties: usize,
+    pub texts: usize,
     pub rows: usize,
     pub annihilators: usize,
     pub and_false: bool,
@@ -40,6 +41,7 @@ pub enum Refusal {
     UnknownKind(usize),
     CutOff(usize),
     Unlisted(usize),
+    OrdersText(usize),
     OutOfOrder(usize),
     MissingNode(usize),
     Repeated(usize),

@@ -1,4 +1,4 @@
-// Questions 2 to 8, each asked of the record at an offset, and the first that is answered with no.
+// Questions 2 to 8 and 12, each asked of the record at an offset, and the first that is answered with no.
 use crate::Counts;
 use crate::OptionRefusal;
 use crate::Refusal;
@@ -20,7 +20,7 @@ ghost use Rattle.ir.specs.Classes.{isAnnihilator};
 ghost use Rattle.ir.specs.Kinds.{roleOf};
 ghost use Rattle.graph.specs.Graph.{Graph, countsOf, member};
 ghost use Rattle.graph.specs.Layout.{sizeBy, sizeOf};
-ghost use Rattle.graph.specs.Questions.{isKind, isListed, isVariant, hasNodes, isFirst, hasRoom};
+ghost use Rattle.graph.specs.Questions.{isKind, isListed, isVariant, hasListedText, ordersNoText, hasNodes, isFirst, hasRoom};
 ghost use Rattle.graph.specs.Decode.{refusalAt};
 ghost use Rattle.graph.specs.Refusals.{Names};
 ghost use Rattle.graph.specs.Index.{Held, Sound, Next, slot};
@@ -70,7 +70,7 @@ fn is_variant(inputs: usize, place: usize, variant: u8) -> bool
     ensures { λ r. ⌜ r ≡ isVariant inputs place variant ⌝ }
 {
     if place < inputs {
-        variant <= variant::COLOR
+        variant <= variant::TEXT
     } else {
         variant == variant::UNWIRED
     }
@@ -86,6 +86,17 @@ fn is_listed_row(s: &[u8], at: usize) -> bool
     let second = is_variant(inputs, 1, s[at + 3]);
     let third = is_variant(inputs, 2, s[at + 4]);
     class::has_rows(folding) & first & second & third
+}
+
+fn row_orders_no_text(s: &[u8], at: usize) -> bool
+    requires { ⌜ at + sizeBy Role.Row ≤ length (now s) ⌝ }
+    ensures { λ r. ⌜ r ≡ ordersNoText Role.Row (now (s .entry)) at ⌝ }
+{
+    let order = class::is_order(s[at + 1]);
+    let text = (s[at + 2] == variant::TEXT)
+        | (s[at + 3] == variant::TEXT)
+        | (s[at + 4] == variant::TEXT);
+    !(order & text)
 }
 
 fn is_listed_annihilator(s: &[u8], at: usize) -> bool
@@ -106,6 +117,32 @@ fn is_listed(role: Role, s: &[u8], at: usize) -> bool
         Role::Property => is_listed_property(s, at),
         Role::Row => is_listed_row(s, at),
         Role::Annihilator => is_listed_annihilator(s, at),
+    }
+}
+
+// Whether a text's length and bytes are listed.
+fn has_listed_text(kind: u8, s: &[u8], at: usize) -> bool
+    requires { ⌜ (kind ≡ byte (now s) at) × (at + sizeOf kind ≤ length (now s)) ⌝ }
+    ensures { λ r. ⌜ r ≡ hasListedText (now (s .entry)) at ⌝ }
+{
+    if kind == kind::TEXT {
+        return text::is_listed(s, at + 4);
+    }
+    true
+}
+
+// Whether a row is none of an order gate that names text.
+fn orders_no_text(role: Role, s: &[u8], at: usize) -> bool
+    requires { ⌜ at + sizeBy role ≤ length (now s) ⌝ }
+    ensures { λ r. ⌜ r ≡ ordersNoText role (now (s .entry)) at ⌝ }
+{
+    match role {
+        Role::Unlisted => true,
+        Role::Node => true,
+        Role::Wire => true,
+        Role::Property => true,
+        Role::Row => row_orders_no_text(s, at),
+        Role::Annihilator => true,
     }
 }
 
@@ -188,6 +225,12 @@ pub fn check(s: &[u8], at: usize, last: u8, counts: Counts, table: &[u16; SLOTS]
     if !is_listed(role, s, at) {
         return OptionRefusal::Some(Refusal::Unlisted(at));
     }
+    if !has_listed_text(kind, s, at) {
+        return OptionRefusal::Some(Refusal::Unlisted(at));
+    }
+    if !orders_no_text(role, s, at) {
+        return OptionRefusal::Some(Refusal::OrdersText(at));
+    }
     if kind < last {
         return OptionRefusal::Some(Refusal::OutOfOrder(at));
     }
@@ -220,10 +263,20 @@ pub fn is_next(
     if s.len() - at < size {
         return false;
     }
-    let listed = is_listed(role, s, at);
-    let present = has_nodes(counts.nodes, role, s, at);
-    if !((s[at] == kind) & listed & present & has_room(counts, role)) {
+    if s[at] != kind {
         return false;
     }
-    is_first(role, s, at, counts, table)
+    let listed = is_listed(role, s, at);
+    let ordered = orders_no_text(role, s, at);
+    let present = has_nodes(counts.nodes, role, s, at);
+    if !(listed & ordered & present & has_room(counts, role)) {
+        return false;
+    }
+    if !is_first(role, s, at, counts, table) {
+        return false;
+    }
+    if kind == kind::TEXT {
+        return text::is_listed(s, at + 4);
+    }
+    true
 }

@@ -4,12 +4,17 @@ use crate::SLOTS;
 use crate::question;
 use ir::Role;
 use ir::class;
+use ir::kind;
 ghost use mathlib.Core.Path.{_≡_};
 ghost use mathlib.Core.Bool.{true};
-ghost use Prim.Native.Nat.{_+_, _≤_, _<_};
+ghost use Prim.Native.Nat.{ℕ, _+_, _≤_, _<_};
+ghost use mathlib.Core.List.{List};
 ghost use lib.ListN.{length};
+ghost use Rattle.encoding.specs.Numbers.{byte};
 ghost use Rattle.ir.specs.Classes.{isAnnihilator};
-ghost use Rattle.graph.specs.Graph.{Graph, add, addAnnihilator, countsOf};
+ghost use Rattle.ir.specs.Limits.{maxProperties};
+ghost use Rattle.ir.specs.declared.Role.{Role};
+ghost use Rattle.graph.specs.Graph.{Graph, propertyAt, add, addProperty, addAnnihilator, countsOf};
 ghost use Rattle.graph.specs.Layout.{roleAt, sizeAt};
 ghost use Rattle.graph.specs.Questions.{isFirst, hasRoom};
 ghost use Rattle.graph.specs.Index.{Indexed, Sound};
@@ -28,8 +33,21 @@ fn count_annihilator(class: u8, counts: Counts) -> Counts
     more
 }
 
+fn count_property(kind: u8, counts: Counts) -> Counts
+    requires { ⌜ (counts .properties < maxProperties) × (counts .texts ≤ counts .properties) ⌝ }
+    ensures { λ r. ⌜ ((g : Graph) (s : List ℕ) (at : ℕ) → counts ≡ countsOf g → kind ≡ byte s at → roleAt s at ≡ Role.Property → r ≡ countsOf (addProperty g (propertyAt s at))) ⌝ }
+{
+    let mut more = counts;
+    more.properties = counts.properties + 1;
+    if kind == kind::TEXT {
+        more.texts = counts.texts + 1;
+        return more;
+    }
+    more
+}
+
 pub fn count(role: Role, s: &[u8], at: usize, counts: Counts) -> Counts
-    requires { ⌜ Sound (counts .nodes) role (now s) at × (hasRoom counts role ≡ true) × (counts .annihilators ≤ 65536) ⌝ }
+    requires { ⌜ Sound (counts .nodes) role (now s) at × (hasRoom counts role ≡ true) × (counts .annihilators ≤ 65536) × (counts .texts ≤ counts .properties) × (role ≡ roleAt (now s) at) ⌝ }
     ensures { λ r. ⌜ ((g : Graph) → counts ≡ countsOf g → r ≡ countsOf (add role g (now (s .entry)) at)) ⌝ }
 {
     let mut more = counts;
@@ -43,10 +61,7 @@ pub fn count(role: Role, s: &[u8], at: usize, counts: Counts) -> Counts
             more.wires = counts.wires + 1;
             more
         }
-        Role::Property => {
-            more.properties = counts.properties + 1;
-            more
-        }
+        Role::Property => count_property(s[at], counts),
         Role::Row => {
             more.rows = counts.rows + 1;
             more

@@ -9,6 +9,7 @@ use lib.Arith.{lt-of-le-ne}
 use lib.Dec.{eqb, leb}
 use lib.ListN.{getD}
 use borrow.Author.Tests.{eqb-true, eqb-false, leb-true, ne-eqb}
+use Rattle.ir.specs.Variants.{textVariant, variantCount}
 use Rattle.ir.specs.Limits.{maxNodes}
 use Rattle.whole.specs.Bits.{fromBits}
 use Rattle.value.specs.declared.Value.{Value}
@@ -23,7 +24,8 @@ use Rattle.model.specs.Maps.{Map}
 use Rattle.model.specs.Inputs.{carried, isResolved, operandOf}
 use Rattle.model.specs.Offer.{covers, resolveCondition}
 use Rattle.model.specs.declared.Resolved.{Resolved}
-use Rattle.state.specs.Held.{heldValue, held, knownOf}
+use Rattle.encoding.specs.Words.{heldValue}
+use Rattle.state.specs.Held.{held, knownOf}
 use Rattle.inputs.specs.Inputs.{kindVariant, wordAt, scalarOperand, Locates, LooksUp}
 use Rattle.inputs.specs.declared.Located.{Located}
 use Rattle.inputs.specs.declared.Lookup.{Lookup}
@@ -33,21 +35,21 @@ use Rattle.inputs.proofs.Conditions.{held-some, value-at, covers-row, f
 
 -- the kinds of scalars are 03 to 05
 beyond : (k : ℕ) → (k ≡ 3 → ⊥) → (k ≡ 4 → ⊥) → (k ≡ 5 → ⊥) → kindVariant k ≤ 3 → ⊥
-beyond k n3 n4 n5 = go (leb 3 k && leb k 8) refl
+beyond k n3 n4 n5 = go (leb 3 k && leb k 9) refl
   where
     past : (m : ℕ) → m ≤ k → (k ≡ m → ⊥) → m < k
     past m h n = lt-of-le-ne h (λ z. n (sym z))
 
-    go : (b : Bool) → (leb 3 k && leb k 8) ≡ b → cond b (k - 2) 7 ≤ 3 → ⊥
-    go true e h = omega (arith, h, past 5 (past 4 (past 3 (leb-true 3 k (and-left (leb 3 k) (leb k 8) e)) n3) n4) n5)
+    go : (b : Bool) → (leb 3 k && leb k 9) ≡ b → cond b (k - 2) textVariant ≤ 3 → ⊥
+    go true e h = omega (arith, h, past 5 (past 4 (past 3 (leb-true 3 k (and-left (leb 3 k) (leb k 9) e)) n3) n4) n5)
     go false e h = omega (arith, h)
 
 -- no kind is that of an input with no value
 has-kind : (k : ℕ) → kindVariant k ≡ 0 → ⊥
-has-kind k = go (leb 3 k && leb k 8) refl
+has-kind k = go (leb 3 k && leb k 9) refl
   where
-    go : (b : Bool) → (leb 3 k && leb k 8) ≡ b → cond b (k - 2) 7 ≡ 0 → ⊥
-    go true e h = omega (arith, h, leb-true 3 k (and-left (leb 3 k) (leb k 8) e))
+    go : (b : Bool) → (leb 3 k && leb k 9) ≡ b → cond b (k - 2) textVariant ≡ 0 → ⊥
+    go true e h = omega (arith, h, leb-true 3 k (and-left (leb 3 k) (leb k 9) e))
     go false e h = omega (arith, h)
 
 -- a value by its kind, where word w holds the scalars
@@ -149,7 +151,7 @@ at-source kinds words m few e o =
       by-property = λ w. absurd (false≢true (sym w));
     }
 
-pub few : {i : Resolved} {o : Option Value} {known : Map Value} {l : Located} → Locates i o known l → l .variant ≤ 7
+pub few : {i : Resolved} {o : Option Value} {known : Map Value} {l : Located} → Locates i o known l → l .variant < variantCount
 few {i} f = rw (f .variant) (few-in (operandOf i))
 
 -- ---- a condition

@@ -18,6 +18,7 @@ use Rattle.graph.specs.Decode.{graphOf}
 use Rattle.graph.specs.Index.{Indexed}
 use Rattle.records.specs.Access.{wiresOf, Bounded}
 use Rattle.model.specs.Maps.{Map, keep}
+use Rattle.ir.specs.Variants.{textVariant}
 use Rattle.ir.specs.Limits.{maxNodes}
 use Rattle.model.specs.Inputs.{size, isPort, carried, isResolved, operandOf, resolveInput, resolveDataInput}
 use Rattle.model.specs.declared.Resolved.{Resolved}
@@ -73,9 +74,9 @@ inputIf has input = cond has input Resolved.Unwired
 
 -- ---- variants
 
--- the variant of the values of a kind, which are those from 03 to 09
+-- the variant of the values of a kind: 1 to 7 of 03 to 09, and that of text
 abbrev pub kindVariant : ℕ → ℕ
-kindVariant kind = cond (leb 3 kind && leb kind 8) (kind - 2) 7
+kindVariant kind = cond (leb 3 kind && leb kind 9) (kind - 2) textVariant
 
 -- ---- where an input is found
 

@@ -17,9 +17,12 @@ ghost use mathlib.Core.Bool.{true, false};
 ghost use mathlib.Core.Option.{Option};
 ghost use Prim.Native.Nat.{_+_, _<_, _≤_};
 ghost use lib.ListN.{length, getD};
+ghost use Rattle.ir.specs.Variants.{textVariant};
 ghost use Rattle.ir.specs.Classes.{classCount};
 ghost use Rattle.ir.specs.Limits.{maxNodes, maxWires};
 ghost use Rattle.ir.specs.Ports.{valuePort};
+ghost use Rattle.ir.specs.Kinds.{roleOf};
+ghost use Rattle.ir.specs.declared.Role.{Role};
 ghost use Rattle.encoding.specs.Values.{valueSize};
 ghost use Rattle.graph.specs.Decode.{graphOf};
 ghost use Rattle.graph.specs.Index.{Indexed, slot};
@@ -152,10 +155,10 @@ pub fn resolve_data_input(
 fn variant_of(kind: u8) -> u8
     ensures { λ r. ⌜ r ≡ kindVariant kind ⌝ }
 {
-    if (kind::INT <= kind) & (kind <= kind::QUAT) {
+    if (kind::INT <= kind) & (kind <= kind::COLOR) {
         kind - 2
     } else {
-        variant::COLOR
+        variant::TEXT
     }
 }
 
@@ -167,7 +170,7 @@ fn word(x: u8) -> u64
 
 // The word that holds a scalar property, whose bytes stand at an offset.
 fn read_word(kind: u8, s: &[u8], at: usize) -> u64
-    requires { ⌜ (3 ≤ kind) × (kind ≤ 9) × (at + valueSize kind ≤ length (now s)) ⌝ }
+    requires { ⌜ (roleOf kind ≡ Role.Property) × (at + valueSize kind ≤ length (now s)) ⌝ }
     ensures { λ r. ⌜ r ≡ wordAt kind (now (s .entry)) at ⌝ }
 {
     if kind == kind::BOOL {

@@ -1,10 +1,10 @@
 -- Document 01, "Classes: 0 any other, never folded; 1 Literal; ..".
 use Prim.Native.Nat.{ℕ}
-use mathlib.Core.Bool.{Bool, true, false, cond, _||_}
+use mathlib.Core.Bool.{Bool, true, false, cond, _||_, _&&_}
 use mathlib.Core.Option.{Option, none, some}
 use mathlib.Core.List.{List, [], _∷_}
 use lib.ListN.{length, getD}
-use lib.Dec.{ltb, eqb}
+use lib.Dec.{ltb, leb, eqb}
 use Rattle.ir.specs.declared.Folding.{Folding}
 use Rattle.ir.specs.declared.Folding.the-variants.{Never, Literal, Microchip, Select, Branch, Unary, Binary, Ternary}
 use Rattle.ir.specs.Ports.{inputA, inputB, thirdInput, bSelectB, bCond, rerInput}
@@ -31,6 +31,10 @@ classCount = length classes
 
 abbrev pub isClass : ℕ → Bool
 isClass class = ltb class classCount
+
+-- "Less, LessOrEqual, Greater, GreaterOrEqual"
+abbrev pub isOrder : ℕ → Bool
+isOrder class = leb 8 class && leb class 11
 
 abbrev pub foldingOf : ℕ → Folding
 foldingOf class = getD classes class Never

@@ -16,7 +16,7 @@ kind r n = record { role = r; body = n }
 abbrev pub unlisted : Kind
 unlisted = kind Unlisted 0
 
--- by the kind byte, from 00, which is no kind
+-- by the kind byte, from 00, which is no kind; 03 to 09 are Int to Color, 0C is text
 abbrev pub kinds : List Kind
 kinds =
     unlisted
@@ -31,6 +31,7 @@ kinds =
     ∷ kind Property 35
     ∷ kind Row 4
     ∷ kind Annihilator 1
+    ∷ kind Property 20
     ∷ []
 
 abbrev pub roleOf : ℕ → Role
@@ -38,3 +39,7 @@ roleOf k = getD kinds k unlisted .role
 
 abbrev pub bodyOf : ℕ → ℕ
 bodyOf k = getD kinds k unlisted .body
+
+-- "0C text"
+abbrev pub textKind : ℕ
+textKind = 12

@@ -3,3 +3,4 @@ pub mod Classes
 pub mod Kinds
 pub mod Flags
 pub mod Limits
+pub mod Variants

@@ -2,7 +2,7 @@
 use crate::Folding;
 use crate::wide;
 ghost use mathlib.Core.Path.{_≡_};
-ghost use Rattle.ir.specs.Classes.{foldingOf, inputCount, hasRows, isClass, isAnnihilator};
+ghost use Rattle.ir.specs.Classes.{foldingOf, inputCount, hasRows, isClass, isOrder, isAnnihilator};
 ghost use Prim.Native.Nat.{_<_};
 
 pub const COUNT: usize = 43;
@@ -95,6 +95,13 @@ pub fn is_class(class: u8) -> bool
     ensures { λ r. ⌜ r ≡ isClass class ⌝ }
 {
     wide(class) < COUNT
+}
+
+// Whether the class is an order gate.
+pub fn is_order(class: u8) -> bool
+    ensures { λ r. ⌜ r ≡ isOrder class ⌝ }
+{
+    (COMPARE_LESS <= class) & (class <= COMPARE_GREATER_OR_EQUAL)
 }
 
 // A class before the gates.

@@ -25,6 +25,8 @@ pub const ROW: u8 = 0x0A;
 
 pub const ANNIHILATOR: u8 = 0x0B;
 
+pub const TEXT: u8 = 0x0C;
+
 pub fn role_of(kind: u8) -> Role
     ensures { λ r. ⌜ r ≡ roleOf kind ⌝ }
 {
@@ -41,6 +43,7 @@ pub fn role_of(kind: u8) -> Role
         COLOR => Role::Property,
         ROW => Role::Row,
         ANNIHILATOR => Role::Annihilator,
+        TEXT => Role::Property,
         _ => Role::Unlisted,
     }
 }
@@ -62,6 +65,7 @@ pub fn body_of(kind: u8) -> usize
         COLOR => 35,
         ROW => 4,
         ANNIHILATOR => 1,
+        TEXT => 20,
         _ => 0,
     }
 }

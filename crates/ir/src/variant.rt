@@ -15,4 +15,6 @@ pub const QUAT: u8 = 6;
 
 pub const COLOR: u8 = 7;
 
-pub const COUNT: usize = 8;
+pub const TEXT: u8 = 8;
+
+pub const COUNT: usize = 9;

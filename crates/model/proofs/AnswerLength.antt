@@ -47,6 +47,7 @@ value-size (Value.Vector x y z) = (omega arith, λ e. omega arith)
 value-size (Value.Rotator p y r) = (omega arith, λ e. omega arith)
 value-size (Value.Quat x y z w) = (omega arith, λ e. absurd (false≢true e))
 value-size (Value.Color r g b a) = (omega arith, λ e. absurd (false≢true e))
+value-size (Value.Text low high) = (omega arith, λ e. omega arith)
 
 -- a known record: 4 bytes and the value's
 known-size : (i : ℕ) (o : Option Value) → length (knownBytes i o) ≤ 36

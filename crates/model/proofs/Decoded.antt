@@ -1,7 +1,8 @@
--- The number with which `decode` refuses is 1 to 8.
+-- The number with which `decode` refuses is 1 to 8, or 12.
 use mathlib.Core.Path.{_≡_, refl}
 use mathlib.Core.Bool.{Bool, true, false, cond}
 use mathlib.Core.List.{List, [], _∷_}
+use mathlib.Core.Logic.{_⊎_, inl, inr}
 use Prim.Native.Nat.{ℕ, zero, suc, _+_, _≤_}
 use native.Mathlib.Omega.{arith}
 use lib.Dec.{ltb, leb, eqb}
@@ -15,23 +16,27 @@ use Rattle.graph.specs.Questions.{Context, Question, questions, firstNo}
 use Rattle.graph.specs.Decode.{Verdict, accepted, refused, refusalAt, scan, decode}
 use Rattle.model.specs.Maps.{All}
 
+-- the number of a question
+abbrev Number : ℕ → Type 0
+Number n = (n ≤ 8) ⊎ (n ≡ 12)
+
 -- what holds of each verdict
 abbrev Kept : Verdict → Type 0
 Kept (accepted g) = Unit {0}
-Kept (refused n p) = (1 ≤ n) × (n ≤ 8)
+Kept (refused n p) = (1 ≤ n) × Number n
 
 -- the numbers of a list of questions
-firstNo-number : (qs : List Question) (x : Context) → All (λ q. q .number ≤ 8) qs → firstNo qs x ≤ 8
+firstNo-number : (qs : List Question) (x : Context) → All (λ q. Number (q .number)) qs → Number (firstNo qs x)
 unfolding firstNo
-firstNo-number [] x h = omega arith
+firstNo-number [] x h = inl (omega arith)
 firstNo-number (q ∷ qs) x h = go (q .holds x) (firstNo-number qs x (h .1))
   where
-    go : (b : Bool) → firstNo qs x ≤ 8 → cond b (firstNo qs x) (q .number) ≤ 8
+    go : (b : Bool) → Number (firstNo qs x) → Number (cond b (firstNo qs x) (q .number))
     go true ih = ih
     go false ih = h .0
 
-small-numbers : All (λ q. q .number ≤ 8) questions
-small-numbers = (omega arith, (omega arith, (omega arith, (omega arith, (omega arith, (omega arith, (omega arith, tt)))))))
+numbers : All (λ q. Number (q .number)) questions
+numbers = (inl (omega arith), (inl (omega arith), (inl (omega arith), (inl (omega arith), (inr refl, (inl (omega arith), (inl (omega arith), (inl (omega arith), (inl (omega arith), tt)))))))))
 
 scan-kept : (fuel last : ℕ) (g : Graph) (s : List ℕ) (at : ℕ) → Kept (scan fuel last g s at)
 unfolding scan
@@ -45,8 +50,8 @@ scan-kept (suc fuel) last g s at = go (ltb at (length s)) (scan-kept fuel (byte 
     ask true q ih = ih
     ask false q ih =
         let ne : refusalAt last g s at ≡ 0 → ⊥ = eqb-false (refusalAt last g s at) 0 q in
-        let le : refusalAt last g s at ≤ 8 = unfold refusalAt in firstNo-number questions _ small-numbers in
-        (omega arith, le)
+        let number : Number (refusalAt last g s at) = unfold refusalAt in firstNo-number questions _ numbers in
+        (omega arith, number)
 
     go : (b : Bool) → Kept rest → Kept (cond b (cond (eqb (refusalAt last g s at) 0) rest (refused (refusalAt last g s at) at)) (accepted g))
     go true ih = ask (eqb (refusalAt last g s at) 0) refl ih
@@ -58,7 +63,7 @@ kept s = go (leb (length s) maxInput)
   where
     go : (b : Bool) → Kept (cond b (scan (length s) 0 empty s 0) (refused 1 0))
     go true = scan-kept (length s) 0 empty s 0
-    go false = (omega arith, omega arith)
+    go false = (omega arith, inl (omega arith))
 
-pub refused-number : (s : List ℕ) (n p : ℕ) → decode s ≡ refused n p → (1 ≤ n) × (n ≤ 8)
+pub refused-number : (s : List ℕ) (n p : ℕ) → decode s ≡ refused n p → (1 ≤ n) × ((n ≤ 8) ⊎ (n ≡ 12))
 refused-number s n p e = rw e at (kept s)

@@ -1,4 +1,4 @@
--- Each planned number is finite, no Rotator, Quat or Color is planned, and a node that is planned as literal is known as its value.
+-- Each planned number is finite, no Rotator, Quat, Color or text is planned, and a node that is planned as literal is known as its value.
 use mathlib.Core.Path.{_≡_, refl, ap, _∙_}
 use mathlib.Core.Bool.{Bool, true, false, cond}
 use mathlib.Core.Option.{Option, none, some}

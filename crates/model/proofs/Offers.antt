@@ -195,6 +195,7 @@ holds-operand b (Resolved.Known (Value.Vector x y z)) e = absurd (false≢true e
 holds-operand b (Resolved.Known (Value.Rotator x y z)) e = absurd (false≢true e)
 holds-operand b (Resolved.Known (Value.Quat x y z w)) e = absurd (false≢true e)
 holds-operand b (Resolved.Known (Value.Color x y z w)) e = absurd (false≢true e)
+holds-operand b (Resolved.Known (Value.Text x y)) e = absurd (false≢true e)
 
 -- the gate that an annihilator settles gives that Bool
 settling-gives : (b : Bool) (i j : Resolved) → any (holdsBool b) (i ∷ j ∷ []) ≡ true → evalAt (cond b 13 12) (map operandOf (i ∷ j ∷ [])) ≡ OptionValue.Some (Value.Bool b)

@@ -86,11 +86,15 @@ module _ (input : List ℕ) (room : ℕ) where
   pub refusals : (n p : ℕ) → (outcome input room ≡ refuses n p) ↔ Refused input room n p
   refusals n p = (only n p, if n p)
 
-  -- every refusal's number is 1 to 10
-  number : (n p : ℕ) → Refused input room n p → (1 ≤ n) × (n ≤ 10)
-  number n p (Refused.decoding d) = let h : (1 ≤ n) × (n ≤ 8) = refused-number input n p d in (h .0, omega arith)
-  number n p (Refused.rewriting d f) = (omega arith, omega arith)
-  number n p (Refused.writing d q l) = (omega arith, omega arith)
+  -- every refusal's number is 1 to 10, or 12
+  number : (n p : ℕ) → Refused input room n p → (1 ≤ n) × ((n ≤ 10) ⊎ (n ≡ 12))
+  number n p (Refused.decoding d) = let h = refused-number input n p d in (h .0, go (h .1))
+    where
+      go : (n ≤ 8) ⊎ (n ≡ 12) → (n ≤ 10) ⊎ (n ≡ 12)
+      go (inl l) = inl (omega arith)
+      go (inr e) = inr e
+  number n p (Refused.rewriting d f) = (omega arith, inl (omega arith))
+  number n p (Refused.writing d q l) = (omega arith, inl (omega arith))
 
-  pub refusal-number : (n p : ℕ) → outcome input room ≡ refuses n p → (1 ≤ n) × (n ≤ 10)
+  pub refusal-number : (n p : ℕ) → outcome input room ≡ refuses n p → (1 ≤ n) × ((n ≤ 10) ⊎ (n ≡ 12))
   refusal-number n p e = number n p (only n p e)

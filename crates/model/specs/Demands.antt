@@ -35,7 +35,7 @@ pub record FirstEndless (p : Map PlanAction) (ws : List Wire) (i : ℕ) : Type 0
 
 -- the number and the place with which an input is refused, where the buffer has `room` bytes
 pub data Refused (input : List ℕ) (room : ℕ) : ℕ → ℕ → Type 0 where
-  -- 1 to 8: the first question that is answered with no
+  -- 1 to 8 and 12: the first question that is answered with no
   decoding : {n p : ℕ} → decode input ≡ refused n p → Refused input room n p
   -- 9: a wire's rewriting does not end
   rewriting : {g : Graph} {i : ℕ} → decode input ≡ accepted g → FirstEndless (planOf g) (g .wires) i → Refused input room 9 (wireOffset g i)

@@ -114,6 +114,7 @@ isBool b (Value.Vector x y z) = false
 isBool b (Value.Rotator p y r) = false
 isBool b (Value.Quat x y z w) = false
 isBool b (Value.Color r g c a) = false
+isBool b (Value.Text low high) = false
 
 abbrev pub holdsBool : Bool → Resolved → Bool
 holdsBool b Resolved.Unwired = false

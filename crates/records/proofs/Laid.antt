@@ -1,6 +1,7 @@
 -- Where the nodes, wires, rows and annihilators of an accepted graph stand in the input.
 use Prim.Native.Nat.{ℕ, _+_, _-_, _*_, _≤_, _<_}
 use native.Mathlib.Omega.{arith}
+use native.Mathlib.Decide.{ℕ-discrete}
 use mathlib.Core.Path.{_≡_, refl, sym, ap, _∙_}
 use mathlib.Core.Bool.{true, false≢true}
 use mathlib.Core.List.{List, [], _∷_}
@@ -12,14 +13,16 @@ use Rattle.ir.specs.declared.Role.the-variants.{Unlisted as NoRole, Node as Nod
 use Rattle.encoding.specs.Numbers.{byte, u16At}
 use Rattle.encoding.specs.Wires.{wireAt, wireBytes}
 use Rattle.encoding.proofs.ReadBack.{wire-again}
-use Rattle.graph.specs.Graph.{Graph, empty, nodeAt, rowAt, annihilatorAt, add, snoc, countsOf}
-use Rattle.graph.specs.Layout.{roleAt, sizeAt}
+use Rattle.graph.specs.Graph.{Graph, empty, texts, nodeAt, propertyAt, rowAt, annihilatorAt, add, snoc, countsOf}
+use Rattle.graph.specs.Layout.{roleAt, sizeOf, sizeAt}
 use Rattle.graph.specs.Questions.{isKind, isWirePort, isListed, hasNodes}
 use Rattle.graph.specs.Decode.{Verdict, accepted, refused, decode, graphOf}
 use Rattle.graph.specs.Refusals.{counts, refusal, reported}
 use Rattle.records.specs.Access.{noNode, noWire, noRow, wiresOf, rowsOf, Named, Bounded, Accepts, wiresOffset, rowsOffset}
 use Rattle.graph.specs.declared.Counts.{Counts}
-use Rattle.graph.proofs.Roles.{and-left, and-right, node-kind, wire-kind, property-kind, row-kind, annihilator-kind}
+use Rattle.graph.proofs.Roles.{and-left, and-right, node-kind, wire-kind, row-kind, annihilator-kind}
+use Rattle.encoding.proofs.Sizes.{property-kind}
+use Rattle.graph.proofs.Added.{one-text, no-text}
 use Rattle.graph.proofs.Asked.{Passed}
 use Rattle.records.proofs.Induct.{induct}
 use Rattle.records.proofs.Runs.{snoc-at, wires-run, rows-run}
@@ -37,9 +40,10 @@ pub record Laid (s : List ℕ) (last : ℕ) (g : Graph) (at : ℕ) : Type 0 wher
   pub from : ℕ
   pub low : 3 * length (g .nodes) + 7 * length (g .wires) ≤ from
   pub rows : (k : ℕ) → k < length (g .rows) → getD (g .rows) k noRow ≡ rowAt s (from + 5 * k)
-  pub total : at ≡ from + 5 * length (g .rows) + 2 * length (g .annihilators)
+  pub total : at ≡ from + 5 * length (g .rows) + 2 * length (g .annihilators) + 21 * texts (g .properties)
   pub no-rows : last ≤ 9 → length (g .rows) ≡ 0
   pub no-annihilators : last ≤ 10 → length (g .annihilators) ≡ 0
+  pub no-texts : last ≤ 11 → texts (g .properties) ≡ 0
 
 module _ (s : List ℕ) (last : ℕ) (g : Graph) (at : ℕ) (p : Passed last g s at) (l : Laid s last g at) where
   node-step : roleAt s at ≡ NodeRole → Laid s (byte s at) (add NodeRole g s at) (at + sizeAt s at)
@@ -48,6 +52,7 @@ module _ (s : List ℕ) (last : ℕ) (g : Graph) (at : ℕ) (p : Passed last g s
       let w : length (g .wires) ≡ 0 = l .no-wires (omega (arith, p .rises)) in
       let r : length (g .rows) ≡ 0 = l .no-rows (omega (arith, p .rises)) in
       let a : length (g .annihilators) ≡ 0 = l .no-annihilators (omega (arith, p .rises)) in
+      let x : texts (g .properties) ≡ 0 = l .no-texts (omega (arith, p .rises)) in
       let h : at ≡ 3 * length (g .nodes) + 7 * length (g .wires) = l .here (omega (arith, p .rises)) in
       let n : length (snoc (g .nodes) (nodeAt s at)) ≡ length (g .nodes) + 1 = length-append (g .nodes) (nodeAt s at ∷ []) in
       record {
@@ -65,6 +70,7 @@ module _ (s : List ℕ) (last : ℕ) (g : Graph) (at : ℕ) (p : Passed last g s
         total = omega arith;
         no-rows = λ i. r;
         no-annihilators = λ i. a;
+        no-texts = λ i. x;
       }
 
   wire-step : roleAt s at ≡ WireRole → Laid s (byte s at) (add WireRole g s at) (at + sizeAt s at)
@@ -72,6 +78,7 @@ module _ (s : List ℕ) (last : ℕ) (g : Graph) (at : ℕ) (p : Passed last g s
       let k = wire-kind (byte s at) e in
       let r : length (g .rows) ≡ 0 = l .no-rows (omega (arith, p .rises)) in
       let a : length (g .annihilators) ≡ 0 = l .no-annihilators (omega (arith, p .rises)) in
+      let x : texts (g .properties) ≡ 0 = l .no-texts (omega (arith, p .rises)) in
       let h : at ≡ 3 * length (g .nodes) + 7 * length (g .wires) = l .here (omega (arith, p .rises)) in
       let n : length (snoc (g .wires) (wireAt s at)) ≡ length (g .wires) + 1 = length-append (g .wires) (wireAt s at ∷ []) in
       let t : hasNodes (length (g .nodes)) WireRole s at ≡ true = rw e at (p .there) in
@@ -99,13 +106,38 @@ module _ (s : List ℕ) (last : ℕ) (g : Graph) (at : ℕ) (p : Passed last g s
         total = omega arith;
         no-rows = λ i. r;
         no-annihilators = λ i. a;
+        no-texts = λ i. x;
       }
 
-  property-step : roleAt s at ≡ PropertyRole → Laid s (byte s at) (add PropertyRole g s at) (at + sizeAt s at)
-  property-step e =
+  value-step : roleAt s at ≡ PropertyRole → (byte s at ≡ 12 → ⊥) → Laid s (byte s at) (add PropertyRole g s at) (at + sizeAt s at)
+  value-step e n =
       let k = property-kind (byte s at) e in
+      let h : byte s at ≤ 9 = k .most n in
       let r : length (g .rows) ≡ 0 = l .no-rows (omega (arith, p .rises)) in
       let a : length (g .annihilators) ≡ 0 = l .no-annihilators (omega (arith, p .rises)) in
+      let x : texts (snoc (g .properties) (propertyAt s at)) ≡ 0 = no-text (g .properties) s at e n ∙ l .no-texts (omega (arith, p .rises)) in
+      record {
+        nodes = l .nodes;
+        wires = l .wires;
+        wire-kinds = l .wire-kinds;
+        named = l .named;
+        few-nodes = l .few-nodes;
+        few-wires = l .few-wires;
+        no-wires = λ i. absurd (omega (arith, k .least));
+        here = λ i. absurd (omega (arith, k .least));
+        from = at + sizeAt s at;
+        low = omega (arith, l .low, l .total);
+        rows = λ j i. absurd (omega arith);
+        total = omega arith;
+        no-rows = λ i. r;
+        no-annihilators = λ i. a;
+        no-texts = λ i. x;
+      }
+
+  text-step : roleAt s at ≡ PropertyRole → byte s at ≡ 12 → Laid s (byte s at) (add PropertyRole g s at) (at + sizeAt s at)
+  text-step r e =
+      let long : sizeAt s at ≡ 21 = ap sizeOf e in
+      let x : texts (snoc (g .properties) (propertyAt s at)) ≡ texts (g .properties) + 1 = one-text (g .properties) s at r e in
       record {
         nodes = l .nodes;
         wires = l .wires;
@@ -115,18 +147,27 @@ module _ (s : List ℕ) (last : ℕ) (g : Graph) (at : ℕ) (p : Passed last g s
         few-wires = l .few-wires;
         no-wires = λ i. absurd (omega arith);
         here = λ i. absurd (omega arith);
-        from = at + sizeAt s at;
-        low = omega (arith, l .low, l .total);
-        rows = λ j i. absurd (omega arith);
-        total = omega arith;
-        no-rows = λ i. r;
-        no-annihilators = λ i. a;
+        from = l .from;
+        low = l .low;
+        rows = l .rows;
+        total = omega (arith, l .total);
+        no-rows = λ i. absurd (omega arith);
+        no-annihilators = λ i. absurd (omega arith);
+        no-texts = λ i. absurd (omega arith);
       }
+
+  property-step : roleAt s at ≡ PropertyRole → Laid s (byte s at) (add PropertyRole g s at) (at + sizeAt s at)
+  property-step e = pick (ℕ-discrete (byte s at) 12)
+    where
+      pick : Dec (byte s at ≡ 12) → Laid s (byte s at) (add PropertyRole g s at) (at + sizeAt s at)
+      pick (yes d) = text-step e d
+      pick (no d) = value-step e d
 
   row-step : roleAt s at ≡ RowRole → Laid s (byte s at) (add RowRole g s at) (at + sizeAt s at)
   row-step e =
       let k = row-kind (byte s at) e in
       let a : length (g .annihilators) ≡ 0 = l .no-annihilators (omega (arith, p .rises)) in
+      let x : texts (g .properties) ≡ 0 = l .no-texts (omega (arith, p .rises)) in
       let n : length (snoc (g .rows) (rowAt s at)) ≡ length (g .rows) + 1 = length-append (g .rows) (rowAt s at ∷ []) in
       record {
         nodes = l .nodes;
@@ -143,11 +184,13 @@ module _ (s : List ℕ) (last : ℕ) (g : Graph) (at : ℕ) (p : Passed last g s
         total = omega (arith, l .total, k .long);
         no-rows = λ i. absurd (omega (arith, k .same));
         no-annihilators = λ i. a;
+        no-texts = λ i. x;
       }
 
   annihilator-step : roleAt s at ≡ AnnihilatorRole → Laid s (byte s at) (add AnnihilatorRole g s at) (at + sizeAt s at)
   annihilator-step e =
       let k = annihilator-kind (byte s at) e in
+      let x : texts (g .properties) ≡ 0 = l .no-texts (omega (arith, p .rises, k .same)) in
       record {
         nodes = l .nodes;
         wires = l .wires;
@@ -163,6 +206,7 @@ module _ (s : List ℕ) (last : ℕ) (g : Graph) (at : ℕ) (p : Passed last g s
         total = omega (arith, l .total, k .long, length-append (g .annihilators) (annihilatorAt s at ∷ []));
         no-rows = λ i. absurd (omega (arith, k .same));
         no-annihilators = λ i. absurd (omega (arith, k .same));
+        no-texts = λ i. x;
       }
 
   step : Laid s (byte s at) (add (roleAt s at) g s at) (at + sizeAt s at)
@@ -177,6 +221,7 @@ module _ (s : List ℕ) (last : ℕ) (g : Graph) (at : ℕ) (p : Passed last g s
       pick AnnihilatorRole e = annihilator-step e
 
 start : (s : List ℕ) → Laid s 0 empty 0
+unfolding texts
 start s =
     record {
       nodes = λ i h. absurd (omega arith);
@@ -193,6 +238,7 @@ start s =
       total = refl;
       no-rows = λ h. refl;
       no-annihilators = λ h. refl;
+      no-texts = λ h. refl;
     }
 
 -- where an input's graph is laid: up to the end of an accepted one, and nowhere in a refused one, whose graph is empty
@@ -263,7 +309,7 @@ module _ (s : List ℕ) where
     pub counted : c ≡ countsOf (graphOf s)
     counted = final s .ends c a .1
 
-    pub inside : wiresOffset c + 7 * c .wires + 5 * c .rows + 2 * c .annihilators ≤ length s
+    pub inside : wiresOffset c + 7 * c .wires + 5 * c .rows + 2 * c .annihilators + 21 * c .texts ≤ length s
     inside = let f = final s in rw counted (omega (arith, f .inside, f .laid .low, f .laid .total))
 
     pub wires-part : wiresOf (take (7 * c .wires) (drop (wiresOffset c) s)) ≡ graphOf s .wires
@@ -274,5 +320,5 @@ module _ (s : List ℕ) where
     pub rows-part : rowsOf (take (5 * c .rows) (drop (rowsOffset (length s) c) s)) ≡ graphOf s .rows
     rows-part =
         let f = final s in
-        let e : length s - 2 * length (graphOf s .annihilators) - 5 * length (graphOf s .rows) ≡ f .laid .from = omega (arith, f .laid .total, f .ends c a .0) in
+        let e : length s - 21 * texts (graphOf s .properties) - 2 * length (graphOf s .annihilators) - 5 * length (graphOf s .rows) ≡ f .laid .from = omega (arith, f .laid .total, f .ends c a .0) in
         rw (counted, e) (rows-run s (f .laid .from) (graphOf s .rows) (omega (arith, f .laid .total, f .ends c a .0)) (f .laid .rows))

@@ -11,7 +11,7 @@ use Rattle.ir.specs.declared.Role.{Role}
 use Rattle.ir.specs.declared.Role.the-variants.{Unlisted as NoRole, Node as NodeRole, Wire as WireRole, Property as PropertyRole, Row as RowRole, Annihilator as AnnihilatorRole}
 use Rattle.ir.specs.Kinds.{roleOf}
 use Rattle.encoding.specs.Numbers.{byte}
-use Rattle.graph.specs.Graph.{Graph, empty, add, lookup, member, countsOf}
+use Rattle.graph.specs.Graph.{Graph, empty, add, lookup, member, texts, countsOf}
 use Rattle.graph.specs.Layout.{roleAt, sizeAt, sizeOf}
 use Rattle.graph.specs.Questions.{hasRoom, isFirst}
 use Rattle.graph.specs.Decode.{accepted, refused, refusalAt, scan, decode, graphOf}
@@ -19,9 +19,10 @@ use Rattle.graph.specs.Refusals.{counts, refusal, reported, numberOf}
 use Rattle.graph.specs.Index.{entryValue, Indexed, Held, Sound, Next, slot}
 use Rattle.graph.specs.declared.Counts.{Counts}
 use Rattle.graph.specs.declared.Refusal.{Refusal}
-use Rattle.graph.specs.declared.Refusal.the-variants.{TooLong, UnknownKind, CutOff, Unlisted, OutOfOrder, MissingNode, Repeated, TooMany}
+use Rattle.graph.specs.declared.Refusal.the-variants.{TooLong, UnknownKind, CutOff, Unlisted, OrdersText, OutOfOrder, MissingNode, Repeated, TooMany}
 use Rattle.records.specs.Scanned.{Scanned}
 use Rattle.graph.proofs.Asked.{Passed, passed}
+use Rattle.graph.proofs.Added.{few-texts}
 use Rattle.graph.proofs.Roles.{size-by}
 
 module _ (last : ℕ) (g : Graph) (s : List ℕ) (at : ℕ) where
@@ -64,7 +65,7 @@ module _ (g : Graph) (s : List ℕ) (at : ℕ) where
   few-annihilators AnnihilatorRole = rw length-append (omega arith)
 
 abbrev zeros : Counts
-zeros = record { nodes = 0; wires = 0; properties = 0; rows = 0; annihilators = 0; «and_false» = false; «or_true» = false }
+zeros = record { nodes = 0; wires = 0; properties = 0; texts = 0; rows = 0; annihilators = 0; «and_false» = false; «or_true» = false }
 
 abbrev clear : List ℕ
 clear = replicate 11264 0
@@ -87,7 +88,7 @@ bare s =
         pick (no h) = List·getD-eq-default clear 0 {n = i} (omega (arith, length-replicate {A = ℕ} 11264 0))
 
 pub start : (s : List ℕ) → Scanned s clear zeros 0 0
-unfolding member
+unfolding member texts
 start s =
     record {
       graph = empty;
@@ -153,6 +154,9 @@ module _ {s table : List ℕ} {c : Counts} {role : Role} {kind size at : ℕ} (r
   pub few-here : c .annihilators ≤ length s
   few-here = rw (i .held .counts) (omega (arith, i .few-annihilators, i .inside))
 
+  pub few-texts-here : c .texts ≤ c .properties
+  few-texts-here = rw (i .held .counts) (few-texts (i .graph .properties))
+
   pub one-more : {table′ : List ℕ} {c′ : Counts} → c′ ≡ countsOf (add role (i .graph) s at) → Indexed (add role (i .graph) s at .properties) s table′ → Scanned s table′ c′ kind (at + size)
   one-more {table′} {c′} e d =
       let h : Held (add (roleAt s at) (i .graph) s at) c′ s table′ = record { counts = rw role-here at e; indexed = rw role-here at d } in
@@ -190,6 +194,7 @@ positive TooLong = omega arith
 positive (UnknownKind at) = omega arith
 positive (CutOff at) = omega arith
 positive (Unlisted at) = omega arith
+positive (OrdersText at) = omega arith
 positive (OutOfOrder at) = omega arith
 positive (MissingNode at) = omega arith
 positive (Repeated at) = omega arith

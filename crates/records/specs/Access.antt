@@ -54,15 +54,18 @@ pub record Bounded (ws : List Wire) (n : ℕ) : Type 0 where
 abbrev pub Accepts : List ℕ → Counts → Type 0
 Accepts s c = counts c ≡ reported (decode s)
 
--- where the wires, the properties, the rows and the annihilators of an accepted input start; n is its length
+-- where the wires, the properties, the rows, the annihilators and the texts of an accepted input start; n is its length
 abbrev pub wiresOffset : Counts → ℕ
 wiresOffset c = 3 * c .nodes
 
 abbrev pub propertiesOffset : Counts → ℕ
 propertiesOffset c = wiresOffset c + 7 * c .wires
 
+abbrev pub textsOffset : ℕ → Counts → ℕ
+textsOffset n c = n - 21 * c .texts
+
 abbrev pub annihilatorsOffset : ℕ → Counts → ℕ
-annihilatorsOffset n c = n - 2 * c .annihilators
+annihilatorsOffset n c = textsOffset n c - 2 * c .annihilators
 
 abbrev pub rowsOffset : ℕ → Counts → ℕ
 rowsOffset n c = annihilatorsOffset n c - 5 * c .rows

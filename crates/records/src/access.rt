@@ -14,14 +14,16 @@ ghost use lib.ListN.{length, getD};
 ghost use Rattle.graph.specs.Graph.{lookup};
 ghost use Rattle.graph.specs.Decode.{graphOf};
 ghost use Rattle.graph.specs.Index.{Indexed};
-ghost use Rattle.records.specs.Access.{noNode, noWire, noRow, wiresOf, rowsOf, Accepts, wiresOffset, propertiesOffset, rowsOffset, annihilatorsOffset, wireRecords, rowRecords};
+ghost use Rattle.records.specs.Access.{noNode, noWire, noRow, wiresOf, rowsOf, Accepts, wiresOffset, propertiesOffset, rowsOffset, annihilatorsOffset, textsOffset, wireRecords, rowRecords};
 
-// How long the records of a node, a row and an annihilator are.
+// How long the records of a node, a row, an annihilator and a text are.
 const NODE_SIZE: usize = 3;
 
 pub const ROW_SIZE: usize = 5;
 
 const ANNIHILATOR_SIZE: usize = 2;
+
+const TEXT_SIZE: usize = 21;
 
 fn wide(x: u8) -> usize
     ensures { λ r. ⌜ (r ≡ x) × (r < 256) ⌝ }
@@ -46,7 +48,7 @@ pub fn node(input: &[u8], i: usize) -> Node
     }
 }
 
-// Where the records of each role start.
+// Where the records of each role start. Texts are properties of their own kind, after the annihilators.
 pub fn wires_offset(input: &[u8], counts: Counts) -> usize
     requires { ⌜ Accepts (now input) counts ⌝ }
     ensures { λ r. ⌜ r ≡ wiresOffset counts ⌝ }
@@ -61,11 +63,18 @@ pub fn properties_offset(input: &[u8], counts: Counts) -> usize
     wires_offset(input, counts) + wire_records::SIZE * counts.wires
 }
 
+pub fn texts_offset(input: &[u8], counts: Counts) -> usize
+    requires { ⌜ Accepts (now input) counts ⌝ }
+    ensures { λ r. ⌜ r ≡ textsOffset (length (now (input .entry))) counts ⌝ }
+{
+    input.len() - TEXT_SIZE * counts.texts
+}
+
 pub fn annihilators_offset(input: &[u8], counts: Counts) -> usize
     requires { ⌜ Accepts (now input) counts ⌝ }
     ensures { λ r. ⌜ r ≡ annihilatorsOffset (length (now (input .entry))) counts ⌝ }
 {
-    input.len() - ANNIHILATOR_SIZE * counts.annihilators
+    texts_offset(input, counts) - ANNIHILATOR_SIZE * counts.annihilators
 }
 
 pub fn rows_offset(input: &[u8], counts: Counts) -> usize

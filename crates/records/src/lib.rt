@@ -17,7 +17,7 @@ use graph::scan;
 use ir::kind;
 use ir::limit;
 
-// Questions 1 to 8: the counts of the graph that the input says, or the first question that is answered with no. The table then holds the
+// Questions 1 to 8 and 12: the counts of the graph that the input says, or the first question that is answered with no. The table then holds the
 // offset of the property of each node and port, at `slot`, and 0 where there is none.
 pub fn decode(input: &[u8], table: &mut [u16; SLOTS]) -> Decoded
     ensures { λ r. ⌜ (reportOf r ≡ reported (decodeOf (now (input .entry)))) × Indexed (graphOf (now (input .entry)) .properties) (now (input .entry)) (now (table .exit)) ⌝ }
@@ -30,6 +30,7 @@ pub fn decode(input: &[u8], table: &mut [u16; SLOTS]) -> Decoded
         nodes: 0,
         wires: 0,
         properties: 0,
+        texts: 0,
         rows: 0,
         annihilators: 0,
         and_false: false,

@@ -57,6 +57,7 @@ fn is_non_finite(v: Value) -> bool
             b: _,
             a: _,
         } => false,
+        Value::Text { low: _, high: _ } => false,
     }
 }
 
@@ -198,6 +199,7 @@ fn is_bool(want: bool, v: Value) -> bool
             b: _,
             a: _,
         } => false,
+        Value::Text { low: _, high: _ } => false,
     }
 }
 

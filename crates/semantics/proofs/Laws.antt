@@ -275,7 +275,7 @@ rest : (n f : Bool) → n ≡ false → n || f ≡ true → f ≡ true
 rest true f h s = cc
 rest false f h s = s
 
--- the value that a gate gives, where it is no non-finite Float, is finite in every part, and no Rotator, Quat or Color
+-- the value that a gate gives, where it is no non-finite Float, is finite in every part, and no Rotator, Quat, Color or text
 pub given-finite :
     (class : ℕ) (a b c : Operand) (v : Value) → evalOf class a b c ≡ OptionValue.Some v → nonFiniteFloat v ≡ false → finiteValue v ≡ true
 given-finite class a b c v e h = rest (nonFiniteFloat v) (finiteValue v) h (subst Sound e (at rules all-sound (λ x y z. OptionValue.None) (λ x y z. refl) class a b c))

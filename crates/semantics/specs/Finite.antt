@@ -12,8 +12,9 @@ nonFiniteFloat (Value.Vector x y z) = false
 nonFiniteFloat (Value.Rotator p y r) = false
 nonFiniteFloat (Value.Quat x y z w) = false
 nonFiniteFloat (Value.Color r g b a) = false
+nonFiniteFloat (Value.Text low high) = false
 
--- every number of the value is finite; no gate gives a Rotator, Quat or Color
+-- every number of the value is finite; no gate gives a Rotator, Quat, Color or text
 abbrev pub finiteValue : Value → Bool
 finiteValue (Value.Int n) = true
 finiteValue (Value.Float x) = finiteOf x
@@ -22,3 +23,4 @@ finiteValue (Value.Vector x y z) = finiteOf x && finiteOf y && finiteOf z
 finiteValue (Value.Rotator p y r) = false
 finiteValue (Value.Quat x y z w) = false
 finiteValue (Value.Color r g b a) = false
+finiteValue (Value.Text low high) = false

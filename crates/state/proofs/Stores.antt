@@ -23,7 +23,10 @@ use Rattle.model.specs.Trial.{State, empty, add}
 use Rattle.model.specs.Arrays.{storeWords}
 use Rattle.model.proofs.Maps.{Same, same?, put-here, put-there, put-none}
 use Rattle.model.proofs.Arrays.{mapOf, store}
-use Rattle.state.specs.Held.{isKind, heldValue, held, knownOf}
+use Rattle.encoding.specs.Words.{heldValue}
+use Rattle.encoding.proofs.Sizes.{property-kind}
+use Rattle.encoding.proofs.Held.{kind-role}
+use Rattle.state.specs.Held.{isKind, held, knownOf}
 use Rattle.state.specs.Planned.{targetsIn, shapeAt, shapeOf, valued, planOf, Holds}
 use Rattle.state.specs.Stores.{Learnt, planned, Planned}
 use Rattle.state.specs.Trials.{offerOf, Within}
@@ -102,24 +105,9 @@ pub record KnownAfter (known : Map Value) (n : ℕ) (o : Option Value) (kinds wo
   pub known-is : put known n o ≡ knownOf kinds words
   pub kinds-listed : (m : ℕ) → isKind (getD kinds m 0)
 
-kind-listed : (v : Value) → isKind (kindOf v)
-kind-listed (Value.Int n) = inr (omega arith, omega arith)
-kind-listed (Value.Float x) = inr (omega arith, omega arith)
-kind-listed (Value.Bool b) = inr (omega arith, omega arith)
-kind-listed (Value.Vector x y z) = inr (omega arith, omega arith)
-kind-listed (Value.Rotator p y r) = inr (omega arith, omega arith)
-kind-listed (Value.Quat x y z w) = inr (omega arith, omega arith)
-kind-listed (Value.Color r g b a) = inr (omega arith, omega arith)
-
 kind-held : (v : Value) (a b c d : ℕ) → held (kindOf v) a b c d ≡ some (heldValue (kindOf v) a b c d)
 unfolding held
-kind-held (Value.Int n) a b c d = refl
-kind-held (Value.Float x) a b c d = refl
-kind-held (Value.Bool t) a b c d = refl
-kind-held (Value.Vector x y z) a b c d = refl
-kind-held (Value.Rotator p y r) a b c d = refl
-kind-held (Value.Quat x y z w) a b c d = refl
-kind-held (Value.Color r g t u) a b c d = refl
+kind-held v a b c d = rw (ne-eqb (kindOf v) 0 (λ e. omega (arith, property-kind (kindOf v) (kind-role v) .least, e))) refl
 
 module _ (g : Graph) (kinds words actions details : List ℕ) (s : State) (n : ℕ) (in-nodes : n < maxNodes) (in-graph : n < size g) (h : Holds g kinds words actions details s) (unknown : s .known n ≡ none) where
   pub same-known : KnownAfter (s .known) n none kinds words
@@ -143,7 +131,7 @@ module _ (g : Graph) (kinds words actions details : List ℕ) (s : State) (n : �
         })
       where
         listed : (m : ℕ) → Same m n → isKind (getD (set kinds n (kindOf v)) m 0)
-        listed m (inl q) = rw (q .1, getD-set-same kinds n (kindOf v) 0 (omega (arith, h .kinds-long))) (kind-listed v)
+        listed m (inl q) = rw (q .1, getD-set-same kinds n (kindOf v) 0 (omega (arith, h .kinds-long))) (inr (kind-role v))
         listed m (inr q) = rw (getD-set-other kinds n m (kindOf v) 0 (apart q)) (h .kinds-listed m)
 
   not-literal : getD actions n 0 ≢ 1

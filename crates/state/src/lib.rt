@@ -1,5 +1,7 @@
 // What is known and planned, held in arrays by node number.
 use encoding::values;
+use encoding::words;
+use encoding::words::Words;
 use ir::kind;
 use ir::limit;
 use value::OptionValue;
@@ -8,19 +10,17 @@ ghost use mathlib.Core.Path.{_≡_};
 ghost use mathlib.Core.List.{List};
 ghost use mathlib.Core.Bool.{true, false};
 ghost use mathlib.Core.Option.{none};
-ghost use Prim.Native.Nat.{ℕ, _*_, _≤_, _<_};
-ghost use lib.Dec.{eqb};
+ghost use Prim.Native.Nat.{ℕ, _+_, _*_, _≤_, _<_};
 ghost use lib.ListN.{getD};
 ghost use Rattle.ir.specs.Limits.{maxNodes};
-ghost use Rattle.encoding.specs.Values.{kindOf};
 ghost use Rattle.graph.specs.Graph.{Graph};
 ghost use Rattle.model.specs.Maps.{isSome};
 ghost use Rattle.model.specs.Inputs.{optional, size};
 ghost use Rattle.model.specs.Trial.{State, empty, add};
-ghost use Rattle.state.specs.Held.{heldValue, heldComposite, knownOf, Above};
+ghost use Rattle.state.specs.Held.{knownOf, Above};
 ghost use Rattle.state.specs.Planned.{Holds};
 ghost use Rattle.state.specs.Trials.{offerOf, Within};
-ghost use Rattle.state.specs.Stores.{ThreeFloats, FourFloats, Learnt, Planned};
+ghost use Rattle.state.specs.Stores.{Learnt, Planned};
 
 // A known value is held as the kind of its record and four words; this kind says that nothing is known.
 pub const UNKNOWN: u8 = 0;
@@ -48,111 +48,6 @@ pub enum Trial {
     Truncate { taken: u8 },
 }
 
-// The words that hold a value; those that it does not need are 0.
-struct Words {
-    a: u64,
-    b: u64,
-    c: u64,
-    d: u64,
-}
-
-fn composite_of(kind: u8, a: u64, b: u64, c: u64, d: u64) -> Value
-    ensures { λ r. ⌜ r ≡ heldComposite kind a b c d ⌝ }
-{
-    let x = ieee::from_bits(a);
-    let y = ieee::from_bits(b);
-    let z = ieee::from_bits(c);
-    if kind == kind::VECTOR {
-        return Value::Vector { x, y, z };
-    }
-    if kind == kind::ROTATOR {
-        return Value::Rotator {
-            pitch: x,
-            yaw: y,
-            roll: z,
-        };
-    }
-    let w = ieee::from_bits(d);
-    if kind == kind::QUAT {
-        return Value::Quat { x, y, z, w };
-    }
-    Value::Color {
-        r: x,
-        g: y,
-        b: z,
-        a: w,
-    }
-}
-
-// The value of a kind that these words hold.
-fn value_of(kind: u8, a: u64, b: u64, c: u64, d: u64) -> Value
-    ensures { λ r. ⌜ r ≡ heldValue kind a b c d ⌝ }
-{
-    if kind == kind::INT {
-        return Value::Int(whole::from_bits(a));
-    }
-    if kind == kind::FLOAT {
-        return Value::Float(ieee::from_bits(a));
-    }
-    if kind == kind::BOOL {
-        return Value::Bool(a == 1);
-    }
-    composite_of(kind, a, b, c, d)
-}
-
-fn three_words(x: f64, y: f64, z: f64) -> Words
-    ensures { λ r. ⌜ ThreeFloats r x y z ⌝ }
-{
-    Words {
-        a: ieee::to_bits(x),
-        b: ieee::to_bits(y),
-        c: ieee::to_bits(z),
-        d: 0,
-    }
-}
-
-fn four_words(x: f64, y: f64, z: f64, w: f64) -> Words
-    ensures { λ r. ⌜ FourFloats r x y z w ⌝ }
-{
-    Words {
-        a: ieee::to_bits(x),
-        b: ieee::to_bits(y),
-        c: ieee::to_bits(z),
-        d: ieee::to_bits(w),
-    }
-}
-
-fn one_word(a: u64) -> Words
-    ensures { λ r. ⌜ r ≡ record { a = a; b = 0; c = 0; d = 0 } ⌝ }
-{
-    Words {
-        a,
-        b: 0,
-        c: 0,
-        d: 0,
-    }
-}
-
-fn bool_word(b: bool) -> u64
-    ensures { λ r. ⌜ eqb r 1 ≡ b ⌝ }
-{
-    if b { 1 } else { 0 }
-}
-
-fn words_of(v: Value) -> Words
-    ensures { λ r. ⌜ heldValue (kindOf v) (r .a) (r .b) (r .c) (r .d) ≡ v ⌝ }
-{
-    match v {
-        Value::Int(n) => one_word(whole::to_bits(n)),
-        Value::Float(x) => one_word(ieee::to_bits(x)),
-        Value::Bool(b) => one_word(bool_word(b)),
-        Value::Vector { x, y, z } => three_words(x, y, z),
-        Value::Rotator { pitch, yaw, roll } => three_words(pitch, yaw, roll),
-        Value::Quat { x, y, z, w } => four_words(x, y, z, w),
-        Value::Color { r, g, b, a } => four_words(r, g, b, a),
-    }
-}
-
 pub fn is_known(kinds: &[u8; limit::NODES], n: usize) -> bool
     requires { ⌜ n < maxNodes ⌝ }
     ensures { λ r. ⌜ ((words : List ℕ) → r ≡ isSome (knownOf (now (kinds .entry)) words n)) ⌝ }
@@ -178,7 +73,21 @@ pub fn load(kinds: &[u8; limit::NODES], words: &[u64; WORDS], n: usize) -> Optio
         return OptionValue::None;
     }
     let at = WIDTH * n;
-    OptionValue::Some(value_of(kind, words[at], words[at + 1], words[at + 2], words[at + 3]))
+    OptionValue::Some(words::value_of(kind, words[at], words[at + 1], words[at + 2], words[at + 3]))
+}
+
+// The words that hold what is known of a node.
+pub fn words_at(words: &[u64; WORDS], n: usize) -> Words
+    requires { ⌜ n < maxNodes ⌝ }
+    ensures { λ r. ⌜ r ≡ record { a = getD (now (words .entry)) (4 * n) 0; b = getD (now (words .entry)) (4 * n + 1) 0; c = getD (now (words .entry)) (4 * n + 2) 0; d = getD (now (words .entry)) (4 * n + 3) 0 } ⌝ }
+{
+    let at = WIDTH * n;
+    Words {
+        a: words[at],
+        b: words[at + 1],
+        c: words[at + 2],
+        d: words[at + 3],
+    }
 }
 
 // Whether one of the kinds or actions of the first nodes is above a bound.
@@ -215,7 +124,7 @@ fn learn(kinds: &mut [u8; limit::NODES], words: &mut [u64; WORDS], n: usize, v: 
     requires { ⌜ n < maxNodes ⌝ }
     ensures { λ _. ⌜ Learnt v n (now (kinds .entry)) (now (words .entry)) (now (kinds .exit)) (now (words .exit)) ⌝ }
 {
-    let held = words_of(v);
+    let held = words::words_of(v);
     let at = WIDTH * n;
     kinds[n] = values::kind_of(v);
     words[at] = held.a;

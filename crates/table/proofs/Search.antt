@@ -9,7 +9,7 @@ use mathlib.Core.List.{List, [], _∷_, _++_}
 use lib.Dec.{eqb, ltb, leb}
 use lib.ListN.{length, getD, take, replicate, length-replicate, List·getD-eq-default}
 use lib.Seq.{take-suc, take-all}
-use borrow.Author.Tests.{ltb-true, ltb-false, leb-true, le-leb, eqb-true, eq-eqb, ne-eqb}
+use borrow.Author.Tests.{ltb-true, ltb-false, leb-true, lt-ltb, eqb-true, eq-eqb, ne-eqb}
 use Rattle.ir.specs.Classes.{classes, classCount, foldingOf, inputCount, hasRows}
 use Rattle.ir.specs.declared.Folding.{Folding}
 use Rattle.ir.specs.declared.Role.the-variants.{Row as RowRole}
@@ -18,7 +18,8 @@ use Rattle.graph.specs.Questions.{isVariant, isListed}
 use Rattle.graph.specs.declared.Row.{Row}
 use Rattle.graph.proofs.Roles.{and-left, and-right}
 use Rattle.records.specs.Access.{rowsOf, noRow}
-use Rattle.table.specs.Table.{covers, isRow, lastVariant, hasCell, rowNumber, VariantsFit, SameNumber, numberCount, wordCount, Marks, Cells}
+use Rattle.ir.specs.Variants.{textVariant, variantCount}
+use Rattle.table.specs.Table.{covers, isRow, hasCell, rowNumber, VariantsFit, SameNumber, numberCount, wordCount, Marks, Cells}
 use Rattle.records.proofs.Runs.{rows-length}
 use Rattle.table.proofs.Bits.{none-set}
 
@@ -51,16 +52,13 @@ row-is q r e =
 
 -- ---- the rows that the table answers for
 
-listed : (r : Row) → hasCell r ≡ true → (r .class < classCount) × (r .first ≤ lastVariant) × (r .second ≤ lastVariant) × (r .third ≤ lastVariant)
+listed : (r : Row) → hasCell r ≡ true → (r .class < classCount) × VariantsFit r
 listed r e =
-    let h = all-four (ltb (r .class) classCount) (leb (r .first) lastVariant) (leb (r .second) lastVariant) (leb (r .third) lastVariant) e in
-    (ltb-true _ _ (h .0), leb-true _ _ (h .1), leb-true _ _ (h .2), leb-true _ _ (h .3))
-
-fit : (r : Row) → hasCell r ≡ true → VariantsFit r
-fit r h = let l = listed r h in (omega (arith, l .1), omega (arith, l .2), omega (arith, l .3))
+    let h = all-four (ltb (r .class) classCount) (ltb (r .first) variantCount) (ltb (r .second) variantCount) (ltb (r .third) variantCount) e in
+    (ltb-true _ _ (h .0), (ltb-true _ _ (h .1), ltb-true _ _ (h .2), ltb-true _ _ (h .3)))
 
 pub within : (r : Row) → hasCell r ≡ true → rowNumber r < numberCount
-within r h = let l = listed r h in omega (arith, l .0, l .1, l .2, l .3)
+within r h = let l = listed r h in omega (arith, l .0, l .1 .0, l .1 .1, l .1 .2)
 
 -- a class that has rows is listed, and so is a variant that passes question 4
 class-listed : (class : ℕ) → hasRows (foldingOf class) ≡ true → ltb class classCount ≡ true
@@ -70,12 +68,12 @@ class-listed class h = go (ltb class classCount) refl
     go true e = refl
     go false e = absurd (false≢true (sym (ap hasRows (List·getD-eq-default classes Folding.Never {n = class} (ltb-false class classCount e))) ∙ h))
 
-variant-listed : (inputs place variant : ℕ) → isVariant inputs place variant ≡ true → leb variant lastVariant ≡ true
+variant-listed : (inputs place variant : ℕ) → isVariant inputs place variant ≡ true → ltb variant variantCount ≡ true
 variant-listed inputs place variant = go (ltb place inputs)
   where
-    go : (b : Bool) → cond b (leb variant lastVariant) (eqb variant 0) ≡ true → leb variant lastVariant ≡ true
-    go true e = e
-    go false e = le-leb variant lastVariant (omega (arith, eqb-true variant 0 e))
+    go : (b : Bool) → cond b (leb variant textVariant) (eqb variant 0) ≡ true → ltb variant variantCount ≡ true
+    go true e = lt-ltb variant variantCount (omega (arith, leb-true variant textVariant e))
+    go false e = lt-ltb variant variantCount (omega (arith, eqb-true variant 0 e))
 
 row-listed : (s : List ℕ) (at : ℕ) → isListed RowRole s at ≡ true → hasCell (rowAt s at) ≡ true
 row-listed s at e =
@@ -86,7 +84,7 @@ row-listed s at e =
 
 pub answers : (r : Row) {t : Bool} → t ≡ hasCell r
     → (t ≡ hasCell r) × (((s : List ℕ) (at : ℕ) → rowAt s at ≡ r → isListed RowRole s at ≡ true → t ≡ true) × (t ≡ true → VariantsFit r))
-answers r e = (e, (λ s at q h. e ∙ ap hasCell (sym q) ∙ row-listed s at h, λ h. fit r (sym e ∙ h)))
+answers r e = (e, (λ s at q h. e ∙ ap hasCell (sym q) ∙ row-listed s at h, λ h. listed r (sym e ∙ h) .1))
 
 -- ---- the number of a row
 
@@ -118,7 +116,7 @@ module _ (before : List Row) {x y : Row} (e : y ≡ x) {t : Bool} (h : t ≡ has
         long = s .long ∙ m .long;
         marked = λ r l.
             s .numbers (rowNumber r)
-            ∙ ap₂ _||_ (m .marked r l) (ap (λ (i : ℕ). eqb i (rowNumber r)) number ∙ decides y r (law r (fits k) (fit r l)) ∙ ap (λ (q : Row). isRow q r) e)
+            ∙ ap₂ _||_ (m .marked r l) (ap (λ (i : ℕ). eqb i (rowNumber r)) number ∙ decides y r (law r (fits k) (listed r l .1)) ∙ ap (λ (q : Row). isRow q r) e)
             ∙ sym (covers-snoc before x r);
       }
 

@@ -5,9 +5,10 @@ use mathlib.Core.Logic.{_↔_}
 use mathlib.Core.Bool.{Bool, true, false, cond, _&&_, _||_}
 use mathlib.Core.Option.{Option, none, some}
 use mathlib.Core.List.{List, [], _∷_}
-use lib.Dec.{eqb, leb}
+use lib.Dec.{eqb, ltb}
 use lib.ListN.{length, getD}
 use Rattle.ir.specs.Classes.{classCount, isClass}
+use Rattle.ir.specs.Variants.{variantCount}
 use Rattle.whole.specs.Bits.{bit}
 use Rattle.graph.specs.declared.Counts.{Counts}
 use Rattle.graph.specs.declared.Row.{Row}
@@ -25,25 +26,17 @@ unfoldable pub covers : List Row → Row → Bool
 covers [] row = false
 covers (r ∷ rs) row = isRow r row || covers rs row
 
--- "Variants: 0 Unwired, .., 7 Color"
-abbrev pub lastVariant : ℕ
-lastVariant = 7
-
 -- the rows that the table answers for, those that have a cell: of a listed class and listed variants
 abbrev pub hasCell : Row → Bool
-hasCell r = isClass (r .class) && leb (r .first) lastVariant && leb (r .second) lastVariant && leb (r .third) lastVariant
+hasCell r = isClass (r .class) && ltb (r .first) variantCount && ltb (r .second) variantCount && ltb (r .third) variantCount
 
--- the base of a row's number: room for nine variants, one more than there are
-abbrev pub variantRoom : ℕ
-variantRoom = 9
-
--- Document 02, Wish 3, "form the wanted row as a single number": the class, then the variants as three digits to that base
+-- Document 02, Wish 3, "form the wanted row as a single number": the class, then the variants as three digits to the base of their count
 abbrev pub rowNumber : Row → ℕ
-rowNumber r = ((r .class * variantRoom + r .first) * variantRoom + r .second) * variantRoom + r .third
+rowNumber r = ((r .class * variantCount + r .first) * variantCount + r .second) * variantCount + r .third
 
 -- each variant is such a digit
 abbrev pub VariantsFit : Row → Type 0
-VariantsFit r = (r .first < variantRoom) × (r .second < variantRoom) × (r .third < variantRoom)
+VariantsFit r = (r .first < variantCount) × (r .second < variantCount) × (r .third < variantCount)
 
 -- "two rows have the same number exactly when their class and all three variants agree", of rows whose variants are such digits
 abbrev pub SameNumber : Row → Row → Type 0
@@ -51,7 +44,7 @@ SameNumber q r = VariantsFit q → VariantsFit r → (rowNumber q ≡ rowNumber 
 
 -- how many numbers there are of rows of a listed class whose variants fit, and how many words hold a bit for each
 abbrev pub numberCount : ℕ
-numberCount = classCount * variantRoom ^ 3
+numberCount = classCount * variantCount ^ 3
 
 abbrev pub wordBits : ℕ
 wordBits = 64

@@ -28,11 +28,8 @@ pub enum OptionAnnihilator {
     Some(AnnihilatorKind),
 }
 
-// The base of a row's number: room for nine variants, one more than there are.
-const VARIANT_ROOM: usize = 9;
-
 // How many numbers there are of rows of a listed class whose variants fit.
-const NUMBER_COUNT: usize = class::COUNT * VARIANT_ROOM * VARIANT_ROOM * VARIANT_ROOM;
+const NUMBER_COUNT: usize = class::COUNT * variant::COUNT * variant::COUNT * variant::COUNT;
 
 const WORD_BITS: usize = 64;
 
@@ -66,7 +63,7 @@ fn row_number(class: u8, first: u8, second: u8, third: u8) -> usize
     ensures number { λ n. ⌜ n ≡ rowNumber (record { class = class; first = first; second = second; third = third }) ⌝ }
     ensures same_number { λ _. ⌜ ((r : Row) → SameNumber (record { class = class; first = first; second = second; third = third }) r) ⌝ }
 {
-    ((wide(class) * VARIANT_ROOM + wide(first)) * VARIANT_ROOM + wide(second)) * VARIANT_ROOM
+    ((wide(class) * variant::COUNT + wide(first)) * variant::COUNT + wide(second)) * variant::COUNT
         + wide(third)
 }
 

@@ -11,6 +11,8 @@ pub enum Value {
     Rotator { pitch: f64, yaw: f64, roll: f64 },
     Quat { x: f64, y: f64, z: f64, w: f64 },
     Color { r: f64, g: f64, b: f64, a: f64 },
+    // 16 bytes, low byte first, the unused ones 0
+    Text { low: u64, high: u64 },
 }
 
 // A gate's input: no wire and no property, or a value.
@@ -50,5 +52,6 @@ pub fn variant_of(v: Value) -> u8
             b: _,
             a: _,
         } => variant::COLOR,
+        Value::Text { low: _, high: _ } => variant::TEXT,
     }
 }

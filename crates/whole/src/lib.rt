@@ -133,7 +133,7 @@ pub fn checked_sub(a: i64, b: i64) -> OptionInt
     }
 }
 
-fn unsigned_abs(n: i64) -> u64
+pub fn unsigned_abs(n: i64) -> u64
     ensures { λ r. ⌜ r ≡ natAbs n ⌝ }
 {
     if 0 <= n { n as u64 } else { ((!n) as u64) + 1 }

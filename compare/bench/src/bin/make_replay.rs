@@ -25,9 +25,9 @@ const LONGEST: usize = 300;
 /// How many cases a bucket takes.
 fn room(family: &str, number: u8) -> usize {
     match (family, number) {
-        (_, 1..=10) => 90,
+        (_, 1..) => 90,
         ("gates", _) => 1_000,
-        ("mixed" | "routes", _) => 400,
+        ("mixed" | "routes" | "texts", _) => 400,
         _ => 150,
     }
 }

@@ -1,9 +1,17 @@
 //! Graphs of few gates with all kinds of operands, and graphs that annihilators settle.
 use crate::operands::{PALETTES, rich_value};
 use crate::random::class_from;
-use crate::records::{Graph, class, flag, port, variant};
+use crate::records::{Graph, VARIANTS, class, flag, orders_text, port, variant};
 use crate::rng::Rng;
 use crate::tables::{INPUT_PORTS, ROW_LENGTHS};
+
+/// Variants that meet text in one gate.
+const TEXT_PALETTES: [&[u8]; 4] = [
+    &[variant::TEXT],
+    &[variant::TEXT, variant::INT],
+    &[variant::TEXT, variant::BOOL],
+    &[1, 2, 3, 4, 5, 6, 7, 8],
+];
 
 /// Gates of any classes with operands from properties, Literals, chip nodes and other gates, and nodes that read them.
 pub fn gates(rng: &mut Rng) -> Graph {
@@ -25,7 +33,10 @@ pub fn gates(rng: &mut Rng) -> Graph {
 
 fn add_gate(rng: &mut Rng, graph: &mut Graph, before: &[u16]) -> u16 {
     let class = class_from(rng, class::COMPARE_EQUAL);
-    let palette = rng.pick(&PALETTES);
+    let palette = match rng.percent(15) {
+        true => rng.pick(&TEXT_PALETTES),
+        false => rng.pick(&PALETTES),
+    };
     let gate = graph.node(class);
     if rng.percent(3) {
         graph.nodes[usize::from(gate)].1 = flag::NOFOLD;
@@ -55,10 +66,13 @@ fn add_rows(rng: &mut Rng, graph: &mut Graph, class: u8, rows: Vec<[u8; 3]>) {
         0..3 => {}
         3..8 => {
             let mut row = rows[0];
-            row[rng.below(ROW_LENGTHS[usize::from(class)])] = rng.below(8) as u8;
+            row[rng.below(ROW_LENGTHS[usize::from(class)])] = rng.below(VARIANTS) as u8;
             graph.row(class, row);
         }
         _ => rows.into_iter().for_each(|row| graph.row(class, row)),
+    }
+    if !rng.percent(5) {
+        graph.rows.retain(|&row| !orders_text(row));
     }
 }
 
@@ -121,7 +135,14 @@ pub fn annihilators(rng: &mut Rng) -> Graph {
             add_logical(rng, &mut graph, &sources, (gate, port));
         }
         if rng.percent(30) {
-            let mut variants = [rng.below(4) as u8, rng.below(4) as u8, 0];
+            let variants = [
+                variant::UNWIRED,
+                variant::INT,
+                variant::FLOAT,
+                variant::BOOL,
+                variant::TEXT,
+            ];
+            let mut variants = [rng.pick(&variants), rng.pick(&variants), 0];
             variants[ROW_LENGTHS[usize::from(class)]..].fill(0);
             graph.row(class, variants);
         }
@@ -145,6 +166,7 @@ fn add_logical(rng: &mut Rng, graph: &mut Graph, sources: &[u16], target: (u16, 
         variant::BOOL,
         variant::INT,
         variant::FLOAT,
+        variant::TEXT,
     ]);
     match rng.below(10) {
         0 => {}

@@ -1,7 +1,7 @@
 //! Graphs at a limit of question 8 or 1, one below and one past.
 use crate::operands::rich_value;
 use crate::random;
-use crate::records::{Graph, class, limit, port, variant};
+use crate::records::{Graph, VARIANTS, class, limit, orders_text, port, variant};
 use crate::rng::Rng;
 use crate::tables::ROW_LENGTHS;
 
@@ -50,11 +50,16 @@ fn add_wire(rng: &mut Rng, graph: &mut Graph) {
     graph.wire(source, target);
 }
 
+/// Adds a row that no question refuses.
 fn add_row(rng: &mut Rng, graph: &mut Graph) {
     let class = random::class_from(rng, class::SELECT);
-    let mut variants = [0; 3];
-    variants[..ROW_LENGTHS[usize::from(class)]].fill_with(|| rng.below(8) as u8);
-    graph.row(class, variants);
+    let mut row = [class, 0, 0, 0];
+    let variants = &mut row[1..=ROW_LENGTHS[usize::from(class)]];
+    variants.fill_with(|| rng.below(VARIANTS) as u8);
+    if orders_text(row) {
+        row = [class, 0, 0, 0];
+    }
+    graph.rows.push(row);
 }
 
 /// Properties at one port after the other, node by node.
@@ -62,7 +67,7 @@ fn many_properties(rng: &mut Rng, count: usize) -> Graph {
     let mut graph = random::graph(rng, 190);
     graph.properties.clear();
     for number in 0..count {
-        let variant = rng.pick(&[variant::INT, variant::FLOAT, variant::BOOL]);
+        let variant = rng.pick(&[variant::INT, variant::FLOAT, variant::BOOL, variant::TEXT]);
         let value = rich_value(rng, variant);
         graph.property(variant, (number / 11) as u16, (number % 11) as u8, value);
     }

@@ -2,6 +2,7 @@
 mod gates;
 mod limits;
 mod routes;
+mod texts;
 
 use crate::damage::damaged;
 use crate::random;
@@ -15,9 +16,10 @@ pub struct Family {
     make: fn(&mut Rng) -> Vec<u8>,
 }
 
-const FAMILIES: [Family; 9] = [
-    family("mixed", 380, |rng| mixed(rng).bytes()),
-    family("gates", 240, |rng| gates::gates(rng).bytes()),
+const FAMILIES: [Family; 10] = [
+    family("mixed", 320, |rng| mixed(rng).bytes()),
+    family("gates", 210, |rng| gates::gates(rng).bytes()),
+    family("texts", 90, |rng| texts::texts(rng).bytes()),
     family("annihilators", 70, |rng| gates::annihilators(rng).bytes()),
     family("routes", 140, |rng| routes::routes(rng).bytes()),
     family("doubling", 12, |rng| routes::doubling(rng).bytes()),
@@ -55,17 +57,20 @@ fn mixed(rng: &mut Rng) -> Graph {
         965..997 => rng.between(41, 250),
         _ => rng.between(900, 1_024),
     };
-    random::graph(rng, nodes)
+    let graph = random::graph(rng, nodes);
+    texts::sprinkled(rng, graph)
 }
 
 /// A small graph of some family.
 fn small(rng: &mut Rng) -> Graph {
-    match rng.below(4) {
-        0 => gates::gates(rng),
-        1 => routes::routes(rng),
+    match rng.below(8) {
+        0..2 => gates::gates(rng),
+        2..4 => routes::routes(rng),
+        4 => texts::texts(rng),
         _ => {
             let nodes = rng.between(1, 12);
-            random::graph(rng, nodes)
+            let graph = random::graph(rng, nodes);
+            texts::sprinkled(rng, graph)
         }
     }
 }

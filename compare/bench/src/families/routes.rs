@@ -1,6 +1,6 @@
 //! Graphs of Selects and Branches: chains, cycles, Branches that double, and counts of wires around the limit.
 use crate::operands::rich_value;
-use crate::records::{Graph, class, limit, port, variant};
+use crate::records::{Graph, VARIANTS, class, limit, port, variant};
 use crate::rng::Rng;
 use crate::shapes;
 
@@ -44,7 +44,7 @@ pub fn routes(rng: &mut Rng) -> Graph {
     }
     add_entries(rng, &style, &mut graph);
     for class in [class::SELECT, class::BRANCH] {
-        for variant in (0..8).filter(|_| rng.percent(96)) {
+        for variant in (0..VARIANTS as u8).filter(|_| rng.percent(96)) {
             graph.row(class, [variant, 0, 0]);
         }
     }
@@ -57,8 +57,9 @@ fn add_literal(rng: &mut Rng, graph: &mut Graph) -> usize {
         return 0;
     }
     let literal = graph.node(class::LITERAL);
-    let value = rich_value(rng, variant::INT);
-    graph.property(variant::INT, literal, port::VALUE, value);
+    let variant = rng.pick(&[variant::INT, variant::INT, variant::TEXT]);
+    let value = rich_value(rng, variant);
+    graph.property(variant, literal, port::VALUE, value);
     1
 }
 
@@ -72,8 +73,11 @@ fn add_router(rng: &mut Rng, style: &Style, graph: &mut Graph, router: u16) {
     match rng.below(20) {
         0 => graph.wire((any_node(rng, graph), port::OUTPUT), (router, condition)),
         1 => {}
-        2 => {
-            let variant = rng.between(1, 7) as u8;
+        2..4 => {
+            let variant = match rng.percent(50) {
+                true => variant::TEXT,
+                false => rng.between(1, 7) as u8,
+            };
             let value = rich_value(rng, variant);
             graph.property(variant, router, condition, value);
         }

@@ -17,8 +17,8 @@ body-of-requires c κs = search needs
 
 returns-3 : tie.Need-returns-3
 returns-3 c =
-    let k = some-kind _ (c .before .before .before .pre) (c .before .if2 .left) in
-    (λ i a b d e. c .body-of .ensures ∙ fate-literal i _ a b d e _ (c .before .before .if1 .left) (k .0) (k .1), omega (arith, c .body-of .ensures, body-small _ (k .0) (k .1)))
+    let k = some-kind (c .before .before .before .args .kind) (c .before .before .before .pre) (c .before .if2 .left) in
+    (λ i a b d e. c .body-of .ensures ∙ fate-literal i _ a b d e _ (c .before .before .if1 .left) k, omega (arith, c .body-of .ensures, body-small (c .before .before .before .args .kind) k))
 
 pub fate-size-spec : {M : Type 1} → statement M
 fate-size-spec = tie.close (tie.spec returns returns-2 body-of-requires returns-3)

@@ -11,7 +11,7 @@ body-of-requires : tie.Need-body-of-requires
 body-of-requires c κs = search needs
 
 small : (c : tie.After-body-of) → c .body-of .result ≤ 35
-small c = let k = some-kind _ (c .before .before .pre) (c .before .if1 .left) in omega (arith, c .body-of .ensures, body-small _ (k .0) (k .1))
+small c = let k = some-kind (c .before .before .args .kind) (c .before .before .pre) (c .before .if1 .left) in omega (arith, c .body-of .ensures, body-small (c .before .before .args .kind) k)
 
 add-result : tie.Need-add-result
 add-result c = omega (arith, small c)
@@ -21,8 +21,8 @@ returns c = (λ i a b d e. known-none i _ a b d e (c .if1 .taken), omega arith)
 
 returns-2 : tie.Need-returns-2
 returns-2 c =
-    let k = some-kind _ (c .before .before .pre) (c .before .if1 .left) in
-    (λ i a b d e. ap (λ (x : ℕ). 1 + x) (c .body-of .ensures) ∙ known-some i _ a b d e (k .0) (k .1), omega (arith, small c))
+    let k = some-kind (c .before .before .args .kind) (c .before .before .pre) (c .before .if1 .left) in
+    (λ i a b d e. ap (λ (x : ℕ). 1 + x) (c .body-of .ensures) ∙ known-some i _ a b d e k, omega (arith, small c))
 
 pub known-size-spec : {M : Type 1} → statement M
 known-size-spec = tie.close (tie.spec body-of-requires add-result returns returns-2)

@@ -22,7 +22,7 @@ element-copy-out-write-fate : tie.Need-element-copy-out-write-fate Inv-loop μ-l
 element-copy-out-write-fate c = search needs
 
 write-fate-requires : tie.Need-write-fate-requires Inv-loop μ-loop
-write-fate-requires c κs = (omega (arith, c .before .before .before .before .before .pre .0, c .before .before .loop-test .taken), fill-room (c .before .before .before .loop .inv) (c .before .before .loop-test .taken))
+write-fate-requires c κs = (omega (arith, c .before .before .before .before .before .pre .0, c .before .before .loop-test .taken), fill-room (c .before .before .before .loop .inv) (c .before .before .loop-test .taken), c .before .before .before .before .before .pre .2)
 
 add-i : tie.Need-add-i Inv-loop μ-loop
 add-i c = search needs

@@ -18,7 +18,7 @@ loop-holds : tie.Need-loop-holds Inv-loop μ-loop
 loop-holds c = fill-start _ _ _ _ (c .before .pre .1)
 
 write-known-requires : tie.Need-write-known-requires Inv-loop μ-loop
-write-known-requires c κs = (omega (arith, c .before .before .before .before .pre .0, c .before .loop-test .taken), fill-room (c .before .before .loop .inv) (c .before .loop-test .taken))
+write-known-requires c κs = (omega (arith, c .before .before .before .before .pre .0, c .before .loop-test .taken), fill-room (c .before .before .loop .inv) (c .before .loop-test .taken), c .before .before .before .before .pre .2)
 
 add-i : tie.Need-add-i Inv-loop μ-loop
 add-i c = search needs

@@ -9,12 +9,12 @@ use Rattle.answer.proofs.write_nodes.Statement.{statement}
 use Rattle.answer.proofs.write_nodes.Tie as tie
 
 write-known-records-requires : tie.Need-write-known-records-requires
-write-known-records-requires c κs = (c .before .before .pre .0, omega (arith, c .before .before .pre .1))
+write-known-records-requires c κs = (c .before .before .pre .0, omega (arith, c .before .before .pre .1), c .before .before .pre .2)
 
 write-fates-requires : tie.Need-write-fates-requires
 write-fates-requires c κs =
     let w = c .before .before .before .write-known-records .ensures in
-    (c .before .before .before .before .before .before .pre .0, omega (arith, c .before .before .before .before .before .before .pre .1, w .past, written-length w (omega (arith, c .before .before .before .before .before .before .pre .1))))
+    (c .before .before .before .before .before .before .pre .0, omega (arith, c .before .before .before .before .before .before .pre .1, w .past, written-length w (omega (arith, c .before .before .before .before .before .before .pre .1))), c .before .before .before .before .before .before .pre .2)
 
 same-length : tie.Need-same-length
 same-length c = search needs

@@ -45,26 +45,35 @@ enum-known-a-7 c = search needs
 eq-color-requires : tie.Need-eq-color-requires
 eq-color-requires c κs = search needs
 
+enum-known-a-8 : tie.Need-enum-known-a-8
+enum-known-a-8 c = search needs
+
+eq-text-requires : tie.Need-eq-text-requires
+eq-text-requires c κs = search needs
+
 returns : tie.Need-returns
 returns c = search (needs, c .eq-int .ensures, c .before .known-told .given .0 .1, c .before .before .a .given .1)
 
 returns-2 : tie.Need-returns-2
-returns-2 c = search (needs, c .before .before .a2 .given .1)
+returns-2 c = search (needs, c .eq-float .ensures, c .before .known-told2 .given .0 .1, c .before .before .a2 .given .1)
 
 returns-3 : tie.Need-returns-3
 returns-3 c = search (needs, c .before .before .a3 .given .1)
 
 returns-4 : tie.Need-returns-4
-returns-4 c = search (needs, c .before .before .a4 .given .1)
+returns-4 c = search (needs, c .eq-vector .ensures, c .before .known-told4 .given .0 .1, c .before .before .a4 .given .1)
 
 returns-5 : tie.Need-returns-5
-returns-5 c = search (needs, c .before .before .a5 .given .1)
+returns-5 c = search (needs, c .eq-rotator .ensures, c .before .known-told5 .given .0 .1, c .before .before .a5 .given .1)
 
 returns-6 : tie.Need-returns-6
-returns-6 c = search (needs, c .before .before .a6 .given .1)
+returns-6 c = search (needs, c .eq-quat .ensures, c .before .known-told6 .given .0 .1, c .before .before .a6 .given .1)
 
 returns-7 : tie.Need-returns-7
-returns-7 c = search (needs, c .before .before .a7 .given .1)
+returns-7 c = search (needs, c .eq-color .ensures, c .before .known-told7 .given .0 .1, c .before .before .a7 .given .1)
+
+returns-8 : tie.Need-returns-8
+returns-8 c = search (needs, c .eq-text .ensures, c .before .known-told8 .given .0 .1, c .before .before .a8 .given .1)
 
 pub eq-value-spec : {M : Type 1} → statement M
 eq-value-spec =
@@ -84,10 +93,13 @@ eq-value-spec =
     eq-quat-requires
     enum-known-a-7
     eq-color-requires
+    enum-known-a-8
+    eq-text-requires
     returns
     returns-2
     returns-3
     returns-4
     returns-5
     returns-6
-    returns-7)
+    returns-7
+    returns-8)

@@ -30,6 +30,12 @@ enum-told-3 c = search needs
 enum-told-4 : tie.Need-enum-told-4
 enum-told-4 c = search needs
 
+enum-known-v-4 : tie.Need-enum-known-v-4
+enum-known-v-4 c = search needs
+
+is-false-requires : tie.Need-is-false-requires
+is-false-requires c κs = search needs
+
 returns : tie.Need-returns
 returns c = search (needs, c .before .before .v .given .1, c .is-zero .ensures)
 
@@ -51,6 +57,9 @@ returns-6 c = search needs
 returns-7 : tie.Need-returns-7
 returns-7 c = search needs
 
+returns-8 : tie.Need-returns-8
+returns-8 c = search (needs, c .before .before .v4 .given .1, c .is-false .ensures)
+
 pub truthy-value-spec : {M : Type 1} → statement M
 truthy-value-spec =
     tie.close
@@ -64,10 +73,13 @@ truthy-value-spec =
     enum-told-2
     enum-told-3
     enum-told-4
+    enum-known-v-4
+    is-false-requires
     returns
     returns-2
     returns-3
     returns-4
     returns-5
     returns-6
-    returns-7)
+    returns-7
+    returns-8)

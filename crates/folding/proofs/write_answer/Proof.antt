@@ -37,7 +37,7 @@ room : (c : tie.Else2) → length (knownRecords (now (c .before .before .before 
 room c = leb-true _ _ (sym (c .before .holds .ensures (now (c .before .before .before .before .before .args .words))) ∙ not-false _ (c .if2 .left))
 
 write-nodes-requires : tie.Need-write-nodes-requires
-write-nodes-requires c κs = (few (c .before .before .before .before .before .before .before), omega (arith, room (c .before .before)))
+write-nodes-requires c κs = (few (c .before .before .before .before .before .before .before), omega (arith, room (c .before .before)), c .before .before .before .before .before .before .before .pre .worked .settled .finished .holds .kinds-listed)
 
 write-wires-requires : tie.Need-write-wires-requires
 write-wires-requires c κs =

@@ -19,7 +19,7 @@ unfolding size
 few c = omega (arith, nodes-are _ _ (c .pre .worked .settled .accepts), few-nodes (now (c .args .input)))
 
 write-nodes-requires : tie.Need-write-nodes-requires
-write-nodes-requires c κs = (few (c .before .before .before .before), omega (arith, c .before .before .before .before .pre .fits))
+write-nodes-requires c κs = (few (c .before .before .before .before), omega (arith, c .before .before .before .before .pre .fits), c .before .before .before .before .pre .worked .settled .finished .holds .kinds-listed)
 
 write-wires-requires : tie.Need-write-wires-requires
 write-wires-requires c κs =

@@ -8,7 +8,7 @@ use Rattle.encoding.specs.Numbers.{byte}
 use Rattle.graph.specs.Layout.{sizeBy}
 use Rattle.graph.specs.Index.{slot, entryValue, IsProperty}
 use Rattle.graph.proofs.Added.{entry-none, entry-some}
-use Rattle.graph.proofs.Roles.{property-kind, size-by}
+use Rattle.graph.proofs.Roles.{size-by}
 use Rattle.model.specs.Inputs.{optional, property}
 use Rattle.inputs.proofs.Locations.{unwired, at-property}
 use borrow.Author.Needs.{needs}
@@ -67,7 +67,7 @@ read-word-requires : tie.Need-read-word-requires
 read-word-requires c κs =
     let p = stands (c .before) in
     let k = byte (now (c .before .before .before .before .before .before .before .args .input)) (c .before .before .before .wide-number .result) in
-    (property-kind k (p .role) .0, property-kind k (p .role) .1, omega (arith, p .within, size-by k, ap sizeBy (p .role)))
+    (p .role, omega (arith, p .within, size-by k, ap sizeBy (p .role)))
 
 returns-2 : tie.Need-returns-2
 unfolding property

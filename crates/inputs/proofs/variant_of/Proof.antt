@@ -9,7 +9,7 @@ use Rattle.inputs.proofs.variant_of.Tie as tie
 sub-result : tie.Need-sub-result
 sub-result c =
     let k = c .before .args .kind in
-    omega (arith, leb-true 3 k (and-left (leb 3 k) (leb k 8) (c .if1 .taken)))
+    omega (arith, leb-true 3 k (and-left (leb 3 k) (leb k 9) (c .if1 .taken)))
 
 returns : tie.Need-returns
 returns c = rw (c .if1 .taken)

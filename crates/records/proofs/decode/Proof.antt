@@ -12,6 +12,7 @@ use Rattle.encoding.specs.Numbers.{byte}
 use Rattle.records.specs.Scanned.{Scanned}
 use Rattle.records.proofs.Scanned.{start, further, positive, reports-long, reports-refused, reports-accepted}
 use Rattle.graph.proofs.Asked.{passed}
+use Rattle.graph.proofs.Added.{few-texts}
 use Rattle.graph.proofs.Roles.{size-by}
 use Rattle.records.proofs.decode.Statement.{statement}
 use Rattle.records.proofs.decode.Tie as tie
@@ -68,7 +69,7 @@ count-requires : tie.Need-count-requires Inv-loop μ-loop
 count-requires c κs =
     let p = passed _ _ _ _ (ok (c .before .before .before .before)) in
     let i = c .before .before .before .before .before .before .before .before .before .loop .inv in
-    (rw (c .before .before .role-of .ensures) (sound (c .before .before .before .before)), rw (c .before .before .role-of .ensures, i .held .counts) (p .fits), rw (i .held .counts) (omega (arith, i .few-annihilators, c .before .before .before .before .before .before .before .before .loop-test .taken, c .before .before .before .before .before .before .before .before .before .before .if1 .left)))
+    (rw (c .before .before .role-of .ensures) (sound (c .before .before .before .before)), rw (c .before .before .role-of .ensures, i .held .counts) (p .fits), rw (i .held .counts) (omega (arith, i .few-annihilators, c .before .before .before .before .before .before .before .before .loop-test .taken, c .before .before .before .before .before .before .before .before .before .before .if1 .left)), rw (i .held .counts) (few-texts (i .graph .properties)), c .before .before .role-of .ensures)
 
 body-of-requires : tie.Need-body-of-requires Inv-loop μ-loop
 body-of-requires c κs = tt

@@ -1,6 +1,4 @@
 -- `table::has_cell` meets its contract.
-use lib.Dec.{leb·suc-suc}
-use Rattle.table.specs.Table.{lastVariant}
 use Rattle.table.proofs.Search.{answers}
 use borrow.Author.Needs.{needs}
 use Rattle.table.proofs.has_cell.Statement.{statement}
@@ -27,9 +25,6 @@ returns c =
       c .before .before .wide2 .ensures,
       c .before .wide3 .ensures,
       c .wide4 .ensures,
-      leb·suc-suc (k .first) lastVariant,
-      leb·suc-suc (k .second) lastVariant,
-      leb·suc-suc (k .third) lastVariant,
     ))
 
 pub has-cell-spec : {M : Type 1} → statement M

@@ -1,7 +1,7 @@
 //! The mode `gates`: gate cases in, the Rust's values out. main.rs has the format.
 use crate::input::read_or_end;
 use crate::listing::{self, LAST_CLASS};
-use crate::values;
+use crate::values::{self, TEXT};
 use std::io::{Read, Write};
 use wirescript_ir::semantics::{CertifiedTable, Value};
 
@@ -30,6 +30,9 @@ fn answer(case: &[u8; CASE]) -> Result<[u8; OPERAND], String> {
     let mut operands = Vec::new();
     for (i, bytes) in case[1..].chunks(OPERAND).enumerate() {
         operands.push(operand(bytes).map_err(|fault| format!("operand {i}: {fault}"))?);
+        if bytes[0] == TEXT && listing::is_order(class) {
+            return Err(format!("operand {i}: class {class} takes no text"));
+        }
     }
     let count = listing::input_count(class);
     if let Some(i) = operands[count..].iter().position(Option::is_some) {
@@ -45,8 +48,8 @@ fn answer(case: &[u8; CASE]) -> Result<[u8; OPERAND], String> {
 
 fn operand(bytes: &[u8]) -> Result<Option<Value>, String> {
     let (variant, words) = (bytes[0], &bytes[1..]);
-    if variant > 7 {
-        return Err(format!("variant {variant} is none of 0 to 7"));
+    if variant > TEXT {
+        return Err(format!("variant {variant} is none of 0 to {TEXT}"));
     }
     let used = if variant == 0 {
         0
@@ -60,6 +63,9 @@ fn operand(bytes: &[u8]) -> Result<Option<Value>, String> {
     }
     if variant == 3 && words[0] > 1 {
         return Err(format!("{} is no Bool", words[0]));
+    }
+    if variant == TEXT && !values::is_text(words) {
+        return Err("the length or a byte is not one of a text".to_string());
     }
     Ok((variant > 0).then(|| values::read(variant, words)))
 }

@@ -16,7 +16,7 @@ pub struct Graph {
     pub wire_offsets: Vec<usize>,
 }
 
-/// The graph of an input that questions 1 to 8 accept.
+/// The graph of an input that questions 1 to 8 and 12 accept.
 pub fn read(input: &[u8]) -> Graph {
     let mut classes = Vec::new();
     let mut properties: Vec<HashMap<Sym, Literal>> = Vec::new();
@@ -62,7 +62,7 @@ pub fn read(input: &[u8]) -> Graph {
                 1
             }
             _ => {
-                let variant = kind - 2;
+                let variant = values::of_kind(kind);
                 let literal = values::read(variant, &body[3..]).to_literal();
                 properties[number(body)].insert(property_name(body[2]), literal);
                 3 + values::length(variant)
@@ -123,7 +123,7 @@ pub fn known_and_fates(classes: &[u8], known: &HashMap<NodeId, Value>, module: &
     let mut out = Vec::new();
     for i in 0..classes.len() {
         if let Some(value) = known.get(&node_id(i)) {
-            out.push(values::variant(value) + 2);
+            out.push(values::kind(values::variant(value)));
             put_number(i, &mut out);
             out.push(listing::VALUE);
             values::write(value, &mut out);

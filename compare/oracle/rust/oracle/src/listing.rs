@@ -23,8 +23,8 @@ pub const PORTS: [WirePort; 10] = [
 /// Port 10, of properties only.
 pub const VALUE: u8 = 10;
 
-/// Variants 0 to 7.
-pub const VARIANTS: [InVariant; 8] = [
+/// Variants 0 to 8.
+pub const VARIANTS: [InVariant; 9] = [
     InVariant::Unwired,
     InVariant::Int,
     InVariant::Float,
@@ -33,10 +33,16 @@ pub const VARIANTS: [InVariant; 8] = [
     InVariant::Rotator,
     InVariant::Quat,
     InVariant::Color,
+    InVariant::Str,
 ];
 
 pub const LITERAL: u8 = 1;
 pub const LOGICAL_AND: u8 = 12;
+
+/// Whether a class is an order gate, Less to GreaterOrEqual: its rows name no text (question 12).
+pub fn is_order(class: u8) -> bool {
+    (8..=11).contains(&class)
+}
 
 pub const LAST_CLASS: u8 = 42;
 /// Classes from 0; 0, any other, is the Rust's stand-in for a gate that it has no law for.

@@ -11,7 +11,8 @@
 //! diverges INDEX OFFSET    it never ends on a wire record, the first at fault: its number among
 //!                          the wire records from 0, and its offset in the graph
 //! dangles INDEX OFFSET     it leaves a wire at a removed node: the first wire record at fault
-//! invalid NUMBER OFFSET    the first of questions 1 to 8 that refuses the graph, and its place
+//! invalid NUMBER OFFSET    the first of questions 1 to 8 and 12 that refuses the graph, and its
+//!                          place
 //! ```
 //!
 //! POPS are the nodes taken from the worklist, WIRES the rewritten wires (18446744073709551615
@@ -22,9 +23,9 @@
 //! it has shown that order.
 //!
 //! `oracle gates` reads gate cases of 100 bytes: class 6 to 42, and three operands of 33 bytes, a
-//! variant 0 to 7 and the value as in a record, filled with 0 to 32 bytes. Operands past the inputs
-//! of the class are all 0. For each it writes 33 bytes, the value of `eval_in` with `Mode::Fold` as
-//! an operand, variant 0 for None.
+//! variant 0 to 8 and the value as in a record, filled with 0 to 32 bytes. Operands past the inputs
+//! of the class are all 0, and none of classes 8 to 11 is text. For each it writes 33 bytes, the
+//! value of `eval_in` with `Mode::Fold` as an operand, variant 0 for None.
 //!
 //! The exit status is 0 after a whole batch. A batch that is cut off, or a gate case that is not of
 //! this form, gives status 1 and one line on standard error, after the output for all before it;

@@ -9,7 +9,7 @@ use borrow.Author.Tests.{not-true, not-false, le-leb, lt-leb}
 use borrow.Author.Needs.{needs}
 use Rattle.graph.specs.Index.{Held}
 use Rattle.graph.specs.Decode.{refusalAt}
-use Rattle.graph.specs.Questions.{questions, firstNo, isKind, isListed}
+use Rattle.graph.specs.Questions.{questions, firstNo, isKind, isListed, hasListedText, ordersNoText}
 use Rattle.graph.specs.Layout.{sizeAt, roleAt, sizeBy}
 use Rattle.graph.specs.Graph.{Graph}
 use Rattle.encoding.specs.Numbers.{byte}
@@ -44,17 +44,29 @@ past3 c g = past2 (c .before .before) g ∙ passes _ _ _ (le-leb _ _ (whole c))
 listed : (c : tie.After-is-listed) → c .is-listed .result ≡ isListed (roleAt (now (c .before .before .before .before .before .before .before .before .args .s)) (c .before .before .before .before .before .before .before .before .args .at)) (now (c .before .before .before .before .before .before .before .before .args .s)) (c .before .before .before .before .before .before .before .before .args .at)
 listed c = rw (c .before .before .before .before .before .role-of .ensures) at (c .is-listed .ensures)
 
-past4 : (c : tie.Else3) (g : Graph) → Left 3 (c .before .before .before .before .before .before .before .before .before .args .last) g (now (c .before .before .before .before .before .before .before .before .before .args .s)) (c .before .before .before .before .before .before .before .before .before .args .at)
-past4 c g = past3 (c .before .before) g ∙ passes _ _ _ (sym (listed (c .before)) ∙ not-false _ (c .if3 .left))
+past-listed : (c : tie.Else3) (g : Graph) → Left 3 (c .before .before .before .before .before .before .before .before .before .args .last) g (now (c .before .before .before .before .before .before .before .before .before .args .s)) (c .before .before .before .before .before .before .before .before .before .args .at)
+past-listed c g = past3 (c .before .before) g ∙ passes _ _ _ (sym (listed (c .before)) ∙ not-false _ (c .if3 .left))
 
-past5 : (c : tie.Else4) (g : Graph) → Left 4 (c .before .before .before .before .before .before .before .before .before .before .args .last) g (now (c .before .before .before .before .before .before .before .before .before .before .args .s)) (c .before .before .before .before .before .before .before .before .before .before .args .at)
-past5 c g = past4 (c .before) g ∙ passes _ _ _ (le-leb _ _ (c .if4 .left))
+text : (c : tie.After-has-listed-text) → c .has-listed-text .result ≡ hasListedText (now (c .before .before .before .before .before .before .before .before .before .before .args .s)) (c .before .before .before .before .before .before .before .before .before .before .args .at)
+text c = c .has-listed-text .ensures
 
-past6 : (c : tie.Else5) (g : Graph) → Held g (c .before .before .before .before .before .before .before .before .before .before .before .before .args .counts) (now (c .before .before .before .before .before .before .before .before .before .before .before .before .args .s)) (now (c .before .before .before .before .before .before .before .before .before .before .before .before .args .table)) → Left 5 (c .before .before .before .before .before .before .before .before .before .before .before .before .args .last) g (now (c .before .before .before .before .before .before .before .before .before .before .before .before .args .s)) (c .before .before .before .before .before .before .before .before .before .before .before .before .args .at)
-past6 c g h = past5 (c .before .before) g ∙ passes _ _ _ (sym (rw (c .before .before .before .before .before .before .before .before .before .role-of .ensures, h .counts) at (c .before .has-nodes .ensures)) ∙ not-false _ (c .if5 .left))
+past4 : (c : tie.Else4) (g : Graph) → Left 4 (c .before .before .before .before .before .before .before .before .before .before .before .args .last) g (now (c .before .before .before .before .before .before .before .before .before .before .before .args .s)) (c .before .before .before .before .before .before .before .before .before .before .before .args .at)
+past4 c g = past-listed (c .before .before) g ∙ passes _ _ _ (sym (text (c .before)) ∙ not-false _ (c .if4 .left))
 
-past7 : (c : tie.Else6) (g : Graph) → Held g (c .before .before .before .before .before .before .before .before .before .before .before .before .before .before .args .counts) (now (c .before .before .before .before .before .before .before .before .before .before .before .before .before .before .args .s)) (now (c .before .before .before .before .before .before .before .before .before .before .before .before .before .before .args .table)) → Left 6 (c .before .before .before .before .before .before .before .before .before .before .before .before .before .before .args .last) g (now (c .before .before .before .before .before .before .before .before .before .before .before .before .before .before .args .s)) (c .before .before .before .before .before .before .before .before .before .before .before .before .before .before .args .at)
-past7 c g h = past6 (c .before .before) g h ∙ passes _ _ _ (sym (rw (c .before .before .before .before .before .before .before .before .before .before .before .role-of .ensures) at (c .before .is-first .ensures g h)) ∙ not-false _ (c .if6 .left))
+ordered : (c : tie.After-orders-no-text) → c .orders-no-text .result ≡ ordersNoText (roleAt (now (c .before .before .before .before .before .before .before .before .before .before .before .before .args .s)) (c .before .before .before .before .before .before .before .before .before .before .before .before .args .at)) (now (c .before .before .before .before .before .before .before .before .before .before .before .before .args .s)) (c .before .before .before .before .before .before .before .before .before .before .before .before .args .at)
+ordered c = rw (c .before .before .before .before .before .before .before .before .before .role-of .ensures) at (c .orders-no-text .ensures)
+
+past12 : (c : tie.Else5) (g : Graph) → Left 5 (c .before .before .before .before .before .before .before .before .before .before .before .before .before .args .last) g (now (c .before .before .before .before .before .before .before .before .before .before .before .before .before .args .s)) (c .before .before .before .before .before .before .before .before .before .before .before .before .before .args .at)
+past12 c g = past4 (c .before .before) g ∙ passes _ _ _ (sym (ordered (c .before)) ∙ not-false _ (c .if5 .left))
+
+past5 : (c : tie.Else6) (g : Graph) → Left 6 (c .before .before .before .before .before .before .before .before .before .before .before .before .before .before .args .last) g (now (c .before .before .before .before .before .before .before .before .before .before .before .before .before .before .args .s)) (c .before .before .before .before .before .before .before .before .before .before .before .before .before .before .args .at)
+past5 c g = past12 (c .before) g ∙ passes _ _ _ (le-leb _ _ (c .if6 .left))
+
+past6 : (c : tie.Else7) (g : Graph) → Held g (c .before .before .before .before .before .before .before .before .before .before .before .before .before .before .before .before .args .counts) (now (c .before .before .before .before .before .before .before .before .before .before .before .before .before .before .before .before .args .s)) (now (c .before .before .before .before .before .before .before .before .before .before .before .before .before .before .before .before .args .table)) → Left 7 (c .before .before .before .before .before .before .before .before .before .before .before .before .before .before .before .before .args .last) g (now (c .before .before .before .before .before .before .before .before .before .before .before .before .before .before .before .before .args .s)) (c .before .before .before .before .before .before .before .before .before .before .before .before .before .before .before .before .args .at)
+past6 c g h = past5 (c .before .before) g ∙ passes _ _ _ (sym (rw (c .before .before .before .before .before .before .before .before .before .before .before .before .before .role-of .ensures, h .counts) at (c .before .has-nodes .ensures)) ∙ not-false _ (c .if7 .left))
+
+past7 : (c : tie.Else8) (g : Graph) → Held g (c .before .before .before .before .before .before .before .before .before .before .before .before .before .before .before .before .before .before .args .counts) (now (c .before .before .before .before .before .before .before .before .before .before .before .before .before .before .before .before .before .before .args .s)) (now (c .before .before .before .before .before .before .before .before .before .before .before .before .before .before .before .before .before .before .args .table)) → Left 8 (c .before .before .before .before .before .before .before .before .before .before .before .before .before .before .before .before .before .before .args .last) g (now (c .before .before .before .before .before .before .before .before .before .before .before .before .before .before .before .before .before .before .args .s)) (c .before .before .before .before .before .before .before .before .before .before .before .before .before .before .before .before .before .before .args .at)
+past7 c g h = past6 (c .before .before) g h ∙ passes _ _ _ (sym (rw (c .before .before .before .before .before .before .before .before .before .before .before .before .before .before .before .role-of .ensures) at (c .before .is-first .ensures g h)) ∙ not-false _ (c .if8 .left))
 
 shared-slice-read-kind : tie.Need-shared-slice-read-kind
 shared-slice-read-kind c = search needs
@@ -87,37 +99,49 @@ is-listed-requires c κs = by-role c
 returns-3 : tie.Need-returns-3
 returns-3 c = λ g h. (sym (past3 (c .before .before) g ∙ stops _ _ _ (sym (listed (c .before)) ∙ not-true _ (c .if3 .taken))), refl)
 
-returns-4 : tie.Need-returns-4
-returns-4 c = λ g h. (sym (past4 (c .before) g ∙ stops _ _ _ (lt-leb _ _ (c .if4 .taken))), refl)
+has-listed-text-requires : tie.Need-has-listed-text-requires
+has-listed-text-requires c κs = (refl, whole (c .before .before))
 
-has-nodes-requires : tie.Need-has-nodes-requires
-has-nodes-requires c κs = by-role (c .before .before .before)
+returns-4 : tie.Need-returns-4
+returns-4 c = λ g h. (sym (past-listed (c .before .before) g ∙ stops _ _ _ (sym (text (c .before)) ∙ not-true _ (c .if4 .taken))), refl)
+
+orders-no-text-requires : tie.Need-orders-no-text-requires
+orders-no-text-requires c κs = by-role (c .before .before .before .before)
 
 returns-5 : tie.Need-returns-5
-returns-5 c =
-    λ g h.
-    (sym (past5 (c .before .before) g ∙ stops _ _ _ (sym (rw (c .before .before .before .before .before .before .before .before .before .role-of .ensures, h .counts) at (c .before .has-nodes .ensures)) ∙ not-true _ (c .if5 .taken))), refl)
-
-is-first-requires : tie.Need-is-first-requires
-is-first-requires c κs = record { whole = by-role (c .before .before .before .before .before); listed = sym (c .before .before .before .before .is-listed .ensures) ∙ not-false _ (c .before .before .before .if3 .left); there = sym (c .before .has-nodes .ensures) ∙ not-false _ (c .if5 .left); few = c .before .before .before .before .before .before .before .before .before .before .before .before .pre .1 }
+returns-5 c = λ g h. (sym (past4 (c .before .before) g ∙ stops _ _ _ (sym (ordered (c .before)) ∙ not-true _ (c .if5 .taken))), refl)
 
 returns-6 : tie.Need-returns-6
-returns-6 c =
-    λ g h.
-    (sym (past6 (c .before .before) g h ∙ stops _ _ _ (sym (rw (c .before .before .before .before .before .before .before .before .before .before .before .role-of .ensures) at (c .before .is-first .ensures g h)) ∙ not-true _ (c .if6 .taken))), refl)
+returns-6 c = λ g h. (sym (past12 (c .before) g ∙ stops _ _ _ (lt-leb _ _ (c .if6 .taken))), refl)
 
-has-room-requires : tie.Need-has-room-requires
-has-room-requires c κs = search needs
+has-nodes-requires : tie.Need-has-nodes-requires
+has-nodes-requires c κs = by-role (c .before .before .before .before .before .before .before)
 
 returns-7 : tie.Need-returns-7
 returns-7 c =
     λ g h.
-    (sym (past7 (c .before .before) g h ∙ stops _ _ _ (sym (rw (c .before .before .before .before .before .before .before .before .before .before .before .before .before .role-of .ensures, h .counts) at (c .before .has-room .ensures)) ∙ not-true _ (c .if7 .taken))), refl)
+    (sym (past5 (c .before .before) g ∙ stops _ _ _ (sym (rw (c .before .before .before .before .before .before .before .before .before .before .before .before .before .role-of .ensures, h .counts) at (c .before .has-nodes .ensures)) ∙ not-true _ (c .if7 .taken))), refl)
+
+is-first-requires : tie.Need-is-first-requires
+is-first-requires c κs = record { whole = by-role (c .before .before .before .before .before .before .before .before .before); listed = sym (c .before .before .before .before .before .before .before .before .is-listed .ensures) ∙ not-false _ (c .before .before .before .before .before .before .before .if3 .left); there = sym (c .before .has-nodes .ensures) ∙ not-false _ (c .if7 .left); few = c .before .before .before .before .before .before .before .before .before .before .before .before .before .before .before .before .pre .1 }
 
 returns-8 : tie.Need-returns-8
 returns-8 c =
     λ g h.
-    sym (past7 (c .before .before) g h ∙ passes _ _ _ (sym (rw (c .before .before .before .before .before .before .before .before .before .before .before .before .before .role-of .ensures, h .counts) at (c .before .has-room .ensures)) ∙ not-false _ (c .if7 .left)) ∙ none-left _)
+    (sym (past6 (c .before .before) g h ∙ stops _ _ _ (sym (rw (c .before .before .before .before .before .before .before .before .before .before .before .before .before .before .before .role-of .ensures) at (c .before .is-first .ensures g h)) ∙ not-true _ (c .if8 .taken))), refl)
+
+has-room-requires : tie.Need-has-room-requires
+has-room-requires c κs = search needs
+
+returns-9 : tie.Need-returns-9
+returns-9 c =
+    λ g h.
+    (sym (past7 (c .before .before) g h ∙ stops _ _ _ (sym (rw (c .before .before .before .before .before .before .before .before .before .before .before .before .before .before .before .before .before .role-of .ensures, h .counts) at (c .before .has-room .ensures)) ∙ not-true _ (c .if9 .taken))), refl)
+
+returns-10 : tie.Need-returns-10
+returns-10 c =
+    λ g h.
+    sym (past7 (c .before .before) g h ∙ passes _ _ _ (sym (rw (c .before .before .before .before .before .before .before .before .before .before .before .before .before .before .before .before .before .role-of .ensures, h .counts) at (c .before .has-room .ensures)) ∙ not-false _ (c .if9 .left)) ∙ none-left _)
 
 pub check-spec : {M : Type 1} → statement M
 check-spec =
@@ -132,11 +156,15 @@ check-spec =
     returns-2
     is-listed-requires
     returns-3
+    has-listed-text-requires
     returns-4
-    has-nodes-requires
+    orders-no-text-requires
     returns-5
-    is-first-requires
     returns-6
-    has-room-requires
+    has-nodes-requires
     returns-7
-    returns-8)
+    is-first-requires
+    returns-8
+    has-room-requires
+    returns-9
+    returns-10)

@@ -1,17 +1,20 @@
 -- `graph::question::is_next` meets its contract.
-use Prim.Native.Nat.{_+_, _≤_}
+use Prim.Native.Nat.{ℕ, _+_, _≤_}
 use native.Mathlib.Omega.{arith}
 use mathlib.Core.Bool.{Bool, true, false≢true, _&&_}
-use mathlib.Core.Path.{_≡_, _∙_, sym, ap}
-use lib.Dec.{eqb}
+use mathlib.Core.Path.{_≡_, refl, _∙_, sym, ap}
+use mathlib.Core.List.{List}
 use lib.ListN.{length}
 use denote.Ref.{now}
-use borrow.Author.Tests.{not-true, not-false, eqb-true}
+use borrow.Author.Tests.{not-true, not-false, eq-eqb, ne-eqb}
 use borrow.Author.Needs.{needs}
+use Rattle.ir.specs.Kinds.{textKind}
+use Rattle.text.specs.Listed.{isListedText}
 use Rattle.encoding.specs.Numbers.{byte}
-use Rattle.graph.specs.Layout.{sizeBy}
+use Rattle.graph.specs.Questions.{hasListedText}
+use Rattle.graph.specs.Layout.{sizeOf, sizeBy}
 use Rattle.graph.proofs.Roles.{size-by, and-left, and-right}
-use Rattle.graph.proofs.Asked.{next-of, next-whole, next-tests, next-first}
+use Rattle.graph.proofs.Asked.{next-of, next-whole, next-tests, next-first, next-text}
 use Rattle.graph.proofs.question.is_next.Statement.{statement}
 use Rattle.graph.proofs.question.is_next.Tie as tie
 
@@ -27,9 +30,16 @@ four a b d e h =
     let y = and-left (a && b) d x in
     (and-left a b y, and-right a b y, and-right (a && b) d x, and-right ((a && b) && d) e h)
 
--- the tests that passed: the kind, question 4, question 6, question 8
-tests : (c : tie.Else2) → (eqb (byte (now (c .before .before .before .before .before .before .before .args .s)) (c .before .before .before .before .before .before .before .args .at)) (c .before .before .before .before .before .before .before .args .kind) ≡ true) × (c .before .before .before .before .is-listed .result ≡ true) × (c .before .before .before .has-nodes .result ≡ true) × (c .before .has-room .result ≡ true)
-tests c = four (eqb (byte (now (c .before .before .before .before .before .before .before .args .s)) (c .before .before .before .before .before .before .before .args .at)) (c .before .before .before .before .before .before .before .args .kind)) _ _ _ (not-false _ (c .if2 .left))
+-- the tests that passed: questions 4, 12, 6 and 8
+tests : (c : tie.Else3) → (c .before .before .before .before .is-listed .result ≡ true) × (c .before .before .before .orders-no-text .result ≡ true) × (c .before .before .has-nodes .result ≡ true) × (c .before .has-room .result ≡ true)
+tests c = four _ _ _ _ (not-false _ (c .if3 .left))
+
+-- question 4 of a text, and of another record
+listed-at : (s : List ℕ) (at kind : ℕ) {t : Bool} → byte s at ≡ kind → kind ≡ textKind → t ≡ isListedText s (at + 4) → hasListedText s at ≡ t
+listed-at s at kind k e f = rw (k, eq-eqb _ _ e) (sym f)
+
+no-text : (s : List ℕ) (at kind : ℕ) → byte s at ≡ kind → (kind ≡ textKind → ⊥) → hasListedText s at ≡ true
+no-text s at kind k n = rw (k, ne-eqb _ _ n) refl
 
 sub-if1 : tie.Need-sub-if1
 sub-if1 c = search needs
@@ -39,37 +49,63 @@ returns c =
     let b = c .before .before in
     (λ e. absurd (false≢true e), λ g h n. absurd (omega (arith, c .if1 .taken, next-whole (b .pre .0) (b .pre .1) g h n)))
 
+shared-slice-read-if2 : tie.Need-shared-slice-read-if2
+shared-slice-read-if2 c = omega (arith, whole (c .before))
+
+returns-2 : tie.Need-returns-2
+returns-2 c = (λ e. absurd (false≢true e), λ g h n. absurd (c .if2 .taken (n .kind-byte)))
+
 is-listed-requires : tie.Need-is-listed-requires
-is-listed-requires c κs = by-role c
+is-listed-requires c κs = by-role (c .before .before)
+
+orders-no-text-requires : tie.Need-orders-no-text-requires
+orders-no-text-requires c κs = by-role (c .before .before .before)
 
 has-nodes-requires : tie.Need-has-nodes-requires
-has-nodes-requires c κs = by-role (c .before)
-
-shared-slice-read-if2 : tie.Need-shared-slice-read-if2
-shared-slice-read-if2 c = search needs
+has-nodes-requires c κs = by-role (c .before .before .before .before)
 
 has-room-requires : tie.Need-has-room-requires
 has-room-requires c κs = search needs
 
-returns-2 : tie.Need-returns-2
-returns-2 c =
-    let b = c .before .before .before .before .before .before .before in
-    (λ e. absurd (false≢true e), λ g h n. absurd (false≢true (sym (not-true _ (c .if2 .taken)) ∙ next-tests (b .pre .0) (b .pre .1) g h n (c .before .before .before .before .is-listed .ensures) (c .before .before .before .has-nodes .ensures) (c .before .has-room .ensures))))
+returns-3 : tie.Need-returns-3
+returns-3 c =
+    let b = c .before .before .before .before .before .before .before .before .before in
+    (λ e. absurd (false≢true e), λ g h n. absurd (false≢true (sym (not-true _ (c .if3 .taken)) ∙ next-tests (b .pre .0) (b .pre .1) g h n (c .before .before .before .before .is-listed .ensures) (c .before .before .before .orders-no-text .ensures) (c .before .before .has-nodes .ensures) (c .before .has-room .ensures))))
 
 is-first-requires : tie.Need-is-first-requires
 is-first-requires c κs =
     record {
-      whole = by-role (c .before .before .before .before .before);
-      listed = sym (c .before .before .before .before .is-listed .ensures) ∙ tests c .1;
-      there = sym (c .before .before .before .has-nodes .ensures) ∙ tests c .2;
-      few = c .before .before .before .before .before .before .before .pre .3;
+      whole = by-role (c .before .before .before .before .before .before .before);
+      listed = sym (c .before .before .before .before .is-listed .ensures) ∙ tests c .0;
+      there = sym (c .before .before .has-nodes .ensures) ∙ tests c .2;
+      few = c .before .before .before .before .before .before .before .before .before .pre .3;
     }
 
-returns-3 : tie.Need-returns-3
-returns-3 c =
-    let b = c .before .before .before .before .before .before .before .before in (
-      λ e. next-of (b .pre .0) (b .pre .1) (whole (c .before .before .before .before .before .before)) (eqb-true _ _ (tests (c .before) .0)) (sym (c .before .before .before .before .before .is-listed .ensures) ∙ tests (c .before) .1) (sym (c .before .before .before .before .has-nodes .ensures) ∙ tests (c .before) .2) (sym (c .before .before .has-room .ensures) ∙ tests (c .before) .3) (λ g h. sym (c .is-first .ensures g h) ∙ e),
-      λ g h n. c .is-first .ensures g h ∙ next-first (b .pre .0) (b .pre .1) g h n,
+returns-4 : tie.Need-returns-4
+returns-4 c =
+    let b = c .before .before .before .before .before .before .before .before .before .before .before in
+    (λ e. absurd (false≢true e), λ g h n. absurd (false≢true (sym (not-true _ (c .if4 .taken)) ∙ c .before .is-first .ensures g h ∙ next-first (b .pre .0) (b .pre .1) g h n)))
+
+add-is-listed : tie.Need-add-is-listed
+add-is-listed c = search needs
+
+is-listed-requires-2 : tie.Need-is-listed-requires-2
+is-listed-requires-2 c κs = omega (arith, whole (c .before .before .before .before .before .before .before .before .before .before), c .before .before .before .before .before .before .before .before .before .before .before .before .pre .1, ap sizeOf (c .if5 .taken))
+
+returns-5 : tie.Need-returns-5
+returns-5 c =
+    let b = c .before .before .before .before .before .before .before .before .before .before .before .before .before in
+    let l = c .before .before .before .before in (
+      λ e. next-of (b .pre .0) (b .pre .1) (whole (c .before .before .before .before .before .before .before .before .before .before .before)) (c .before .before .before .before .before .before .before .before .before .if2 .left) (sym (c .before .before .before .before .before .before .before .before .is-listed .ensures) ∙ tests l .0) (sym (c .before .before .before .before .before .before .before .orders-no-text .ensures) ∙ tests l .1) (sym (c .before .before .before .before .before .before .has-nodes .ensures) ∙ tests l .2) (sym (c .before .before .before .before .before .has-room .ensures) ∙ tests l .3) (λ g h. sym (c .before .before .before .is-first .ensures g h) ∙ not-false _ (c .before .before .if4 .left)) (listed-at (now (b .args .s)) (b .args .at) (b .args .kind) (c .before .before .before .before .before .before .before .before .before .if2 .left) (c .before .if5 .taken) (c .is-listed2 .ensures) ∙ e),
+      λ g h n. sym (listed-at (now (b .args .s)) (b .args .at) (b .args .kind) (c .before .before .before .before .before .before .before .before .before .if2 .left) (c .before .if5 .taken) (c .is-listed2 .ensures)) ∙ next-text (b .pre .0) (b .pre .1) g h n,
+    )
+
+returns-6 : tie.Need-returns-6
+returns-6 c =
+    let b = c .before .before .before .before .before .before .before .before .before .before .before .before in
+    let l = c .before .before .before in (
+      λ e. next-of (b .pre .0) (b .pre .1) (whole (c .before .before .before .before .before .before .before .before .before .before)) (c .before .before .before .before .before .before .before .before .if2 .left) (sym (c .before .before .before .before .before .before .before .is-listed .ensures) ∙ tests l .0) (sym (c .before .before .before .before .before .before .orders-no-text .ensures) ∙ tests l .1) (sym (c .before .before .before .before .before .has-nodes .ensures) ∙ tests l .2) (sym (c .before .before .before .before .has-room .ensures) ∙ tests l .3) (λ g h. sym (c .before .before .is-first .ensures g h) ∙ not-false _ (c .before .if4 .left)) (no-text (now (b .args .s)) (b .args .at) (b .args .kind) (c .before .before .before .before .before .before .before .before .if2 .left) (c .if5 .left)),
+      λ g h n. refl,
     )
 
 pub is-next-spec : {M : Type 1} → statement M
@@ -78,10 +114,16 @@ is-next-spec =
     (tie.spec
     sub-if1
     returns
-    is-listed-requires
-    has-nodes-requires
     shared-slice-read-if2
-    has-room-requires
     returns-2
+    is-listed-requires
+    orders-no-text-requires
+    has-nodes-requires
+    has-room-requires
+    returns-3
     is-first-requires
-    returns-3)
+    returns-4
+    add-is-listed
+    is-listed-requires-2
+    returns-5
+    returns-6)

@@ -9,7 +9,7 @@ use Rattle.graph.specs.Layout.{sizeBy}
 use Rattle.graph.specs.Index.{slot, entryValue, IsProperty}
 use Rattle.encoding.specs.Numbers.{byte}
 use Rattle.graph.proofs.Added.{entry-none, entry-some}
-use Rattle.graph.proofs.Roles.{property-kind, size-by}
+use Rattle.graph.proofs.Roles.{size-by}
 use Rattle.records.proofs.access.property.Statement.{statement}
 use Rattle.records.proofs.access.property.Tie as tie
 
@@ -56,12 +56,12 @@ read-value-requires : tie.Need-read-value-requires
 read-value-requires c κs =
     let p = stands c in
     let k = byte (now (c .before .before .before .before .before .before .args .input)) (c .before .before .wide-offset .result) in
-    (property-kind k (p .role) .0, property-kind k (p .role) .1, omega (arith, p .within, size-by k, ap sizeBy (p .role)))
+    (p .role, omega (arith, p .within, size-by k, ap sizeBy (p .role)))
 
 returns-2 : tie.Need-returns-2
 returns-2 c =
     let a = c .before .before .before .before .before .before .before .args in
-    rw (c .read-value .ensures) (entry-some (now (a .input)) _ (c .before .before .if1 .left) ∙ ap (entryValue (now (a .input))) (entry (c .before .before .before)) ∙ c .before .before .before .before .before .before .before .pre .2 .says (a .node) (a .port) (c .before .before .before .before .before .before .before .pre .0) (c .before .before .before .before .before .before .before .pre .1))
+    rw (c .read-value .ensures .0) (entry-some (now (a .input)) _ (c .before .before .if1 .left) ∙ ap (entryValue (now (a .input))) (entry (c .before .before .before)) ∙ c .before .before .before .before .before .before .before .pre .2 .says (a .node) (a .port) (c .before .before .before .before .before .before .before .pre .0) (c .before .before .before .before .before .before .before .pre .1))
 
 pub property-spec : {M : Type 1} → statement M
 property-spec =

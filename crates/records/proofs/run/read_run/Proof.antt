@@ -5,7 +5,7 @@ use mathlib.Core.Path.{sym, _∙_}
 use mathlib.Core.Bool.{false≢true}
 use lib.ListN.{length}
 use Rattle.records.specs.Scanned.{Scanned}
-use Rattle.records.proofs.Scanned.{role-here, whole-here, size-here, sound-here, room-here, new-here, begun-here, few-here, one-more}
+use Rattle.records.proofs.Scanned.{role-here, whole-here, size-here, sound-here, room-here, new-here, begun-here, few-here, few-texts-here, one-more}
 use Rattle.records.proofs.run.read_run.Statement.{statement}
 use Rattle.records.proofs.run.read_run.Tie as tie
 
@@ -36,7 +36,7 @@ count-requires c κs =
     let i = c .before .before .before .before .before .loop .inv .1 in
     let p = c .before .before .before .before .before .before .before .pre in
     let n = c .before .before .before .is-next .ensures .0 (c .before .before .if1 .taken) in
-    (sound-here (p .0) (p .1) i n, room-here (p .0) (p .1) i n, omega (arith, p .2, few-here (p .0) (p .1) i n))
+    (sound-here (p .0) (p .1) i n, room-here (p .0) (p .1) i n, omega (arith, p .2, few-here (p .0) (p .1) i n), few-texts-here (p .0) (p .1) i n, role-here (p .0) (p .1) i n)
 
 add-at : tie.Need-add-at Inv-loop μ-loop
 add-at c =

@@ -23,6 +23,9 @@ enum-told-5 c = c .match .keys6
 enum-told-6 : tie.Need-enum-told-6
 enum-told-6 c = c .match .keys7
 
+enum-told-7 : tie.Need-enum-told-7
+enum-told-7 c = c .match .keys8
+
 returns : tie.Need-returns
 returns c = rw (c .enum-told .given .1)
 
@@ -47,6 +50,9 @@ returns-7 c = rw (c .enum-told5 .given .1)
 returns-8 : tie.Need-returns-8
 returns-8 c = rw (c .enum-told6 .given .1)
 
+returns-9 : tie.Need-returns-9
+returns-9 c = rw (c .enum-told7 .given .1)
+
 pub is-bool-spec : {M : Type 1} → statement M
 is-bool-spec =
     tie.close
@@ -58,6 +64,7 @@ is-bool-spec =
     enum-told-4
     enum-told-5
     enum-told-6
+    enum-told-7
     returns
     returns-2
     returns-3
@@ -65,4 +72,5 @@ is-bool-spec =
     returns-5
     returns-6
     returns-7
-    returns-8)
+    returns-8
+    returns-9)

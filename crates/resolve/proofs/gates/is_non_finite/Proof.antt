@@ -28,6 +28,9 @@ enum-told-5 c = c .match .keys6
 enum-told-6 : tie.Need-enum-told-6
 enum-told-6 c = c .match .keys7
 
+enum-told-7 : tie.Need-enum-told-7
+enum-told-7 c = c .match .keys8
+
 returns : tie.Need-returns
 returns c = rw (c .enum-told .given .1)
 
@@ -49,6 +52,9 @@ returns-6 c = rw (c .enum-told5 .given .1)
 returns-7 : tie.Need-returns-7
 returns-7 c = rw (c .enum-told6 .given .1)
 
+returns-8 : tie.Need-returns-8
+returns-8 c = rw (c .enum-told7 .given .1)
+
 pub is-non-finite-spec : {M : Type 1} → statement M
 is-non-finite-spec =
     tie.close
@@ -61,10 +67,12 @@ is-non-finite-spec =
     enum-told-4
     enum-told-5
     enum-told-6
+    enum-told-7
     returns
     returns-2
     returns-3
     returns-4
     returns-5
     returns-6
-    returns-7)
+    returns-7
+    returns-8)

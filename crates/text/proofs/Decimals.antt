@@ -1,0 +1,72 @@
+-- What the decimal form says: it reads as its number, and no digit 0 stands first but in `0`.
+use Prim.Native.Nat.{ℕ, zero, suc, _+_, _-_, _*_, _/_, _%_, _≤_, _<_}
+use native.Mathlib.Omega.{arith}
+use mathlib.Core.Path.{_≡_, refl, sym, ap, _∙_}
+use mathlib.Core.Bool.{Bool, true, false, cond}
+use mathlib.Core.List.{List, [], _∷_, _++_}
+use lib.Dec.{eqb}
+use lib.IntN.{ℤ, pos, negsuc}
+use borrow.Author.Tests.{eqb-true, eqb-false, ne-eqb}
+use Rattle.text.specs.Decimal.{lastDigits, digits, decimal, readAfter, AreDigits, StartsAboveZero, Says, IsPlain}
+
+one-more : (n : ℕ) (ds : List ℕ) (d : ℕ) → readAfter n (ds ++ (d ∷ [])) ≡ 10 * readAfter n ds + (d - 48)
+unfolding readAfter
+one-more n [] d = refl
+one-more n (e ∷ ds) d = one-more (10 * n + (e - 48)) ds d
+
+-- THE LAW
+reads : (n m : ℕ) → m ≤ n → readAfter 0 (lastDigits n m) ≡ m
+unfolding readAfter lastDigits
+reads zero m h = omega arith
+reads (suc n) m h = pick (reads n (m / 10)) (eqb m 0) refl
+  where
+    pick : (m / 10 ≤ n → readAfter 0 (lastDigits n (m / 10)) ≡ m / 10) → (b : Bool) → eqb m 0 ≡ b → readAfter 0 (cond b [] (lastDigits n (m / 10) ++ ((48 + m % 10) ∷ []))) ≡ m
+    pick f true e = sym (eqb-true m 0 e)
+    pick f false e =
+        let some : m ≡ 0 → ⊥ = eqb-false m 0 e in
+        one-more 0 (lastDigits n (m / 10)) (48 + m % 10) ∙ omega (arith, f (omega (arith, some)))
+
+pub digits-read : (m : ℕ) → readAfter 0 (digits m) ≡ m
+digits-read m = reads m m (omega arith)
+
+starts-of : (xs : List ℕ) (d : ℕ) → StartsAboveZero xs → (xs ≡ [] → 48 < d) → StartsAboveZero (xs ++ (d ∷ []))
+starts-of [] d h f = f refl
+starts-of (x ∷ xs) d h f = h
+
+none-left : (n m : ℕ) → m ≤ n → lastDigits n m ≡ [] → m ≡ 0
+unfolding readAfter
+none-left n m h e = sym (reads n m h) ∙ ap (readAfter 0) e
+
+starts : (n m : ℕ) → m ≤ n → StartsAboveZero (lastDigits n m)
+unfolding lastDigits
+starts zero m h = tt
+starts (suc n) m h = pick (starts n (m / 10)) (eqb m 0) refl
+  where
+    pick : (m / 10 ≤ n → StartsAboveZero (lastDigits n (m / 10))) → (b : Bool) → eqb m 0 ≡ b → StartsAboveZero (cond b [] (lastDigits n (m / 10) ++ ((48 + m % 10) ∷ [])))
+    pick f true e = tt
+    pick f false e =
+        let some : m ≡ 0 → ⊥ = eqb-false m 0 e in
+        let less : m / 10 ≤ n = omega (arith, some) in
+        starts-of (lastDigits n (m / 10)) (48 + m % 10) (f less) (λ z. omega (arith, none-left n (m / 10) less z, some))
+
+all-of : (xs : List ℕ) (d : ℕ) → AreDigits xs → d < 10 → AreDigits (xs ++ ((48 + d) ∷ []))
+all-of [] d h f = ((omega arith, omega arith), tt)
+all-of (x ∷ xs) d h f = (h .0, all-of xs d (h .1) f)
+
+all-digits : (n m : ℕ) → AreDigits (lastDigits n m)
+unfolding lastDigits
+all-digits zero m = tt
+all-digits (suc n) m = pick (all-digits n (m / 10)) (eqb m 0)
+  where
+    pick : AreDigits (lastDigits n (m / 10)) → (b : Bool) → AreDigits (cond b [] (lastDigits n (m / 10) ++ ((48 + m % 10) ∷ [])))
+    pick r true = tt
+    pick r false = all-of (lastDigits n (m / 10)) (m % 10) r (omega arith)
+
+says : (m : ℕ) → Says (digits m) m
+says m = record { digits-alone = all-digits m m; reads = reads m m (omega arith); no-zeros = λ h. starts m m (omega arith) }
+
+pub plain : (n : ℤ) → IsPlain n (decimal n)
+unfolding decimal IsPlain
+plain (pos zero) = refl
+plain (pos (suc m)) = rw (ne-eqb (suc m) 0 (λ (e : suc m ≡ 0). omega arith)) (says (suc m))
+plain (negsuc m) = (refl, says (suc m))

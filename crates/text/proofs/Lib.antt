@@ -1,0 +1,5 @@
+pub mod Texts
+pub mod Digits
+pub mod Decimals
+pub mod Lengths
+pub mod Listed
