@@ -148,6 +148,3 @@ module _ {kind size : ℕ} {role : Role} {c : Counts} {s : List ℕ} {at : ℕ} 
 
   pub next-first : isFirst g role s at ≡ true
   next-first = rw here (yes-to-all .new)
-
-  pub next-text : hasListedText s at ≡ true
-  next-text = yes-to-all .text

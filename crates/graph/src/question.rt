@@ -17,7 +17,7 @@ ghost use Prim.Native.Nat.{_+_, _≤_, _<_};
 ghost use lib.ListN.{length};
 ghost use Rattle.encoding.specs.Numbers.{byte, u16At};
 ghost use Rattle.ir.specs.Classes.{isAnnihilator};
-ghost use Rattle.ir.specs.Kinds.{roleOf};
+ghost use Rattle.ir.specs.Kinds.{roleOf, textKind};
 ghost use Rattle.graph.specs.Graph.{Graph, countsOf, member};
 ghost use Rattle.graph.specs.Layout.{sizeBy, sizeOf};
 ghost use Rattle.graph.specs.Questions.{isKind, isListed, isVariant, hasListedText, ordersNoText, hasNodes, isFirst, hasRoom};
@@ -246,7 +246,8 @@ pub fn check(s: &[u8], at: usize, last: u8, counts: Counts, table: &[u16; SLOTS]
     OptionRefusal::None
 }
 
-// Whether the record at an offset is one more of a kind, and passes. The records before it are counted, and the last of them is of the same kind.
+// Whether the record at an offset is one more of a kind other than text, and passes. The records before it are counted, and the last of them is
+// of the same kind.
 pub fn is_next(
     kind: u8,
     role: Role,
@@ -256,7 +257,7 @@ pub fn is_next(
     counts: Counts,
     table: &[u16; SLOTS],
 ) -> bool
-    requires { ⌜ (role ≡ roleOf kind) × (size ≡ sizeOf kind) × (at ≤ length (now s)) × (counts .nodes ≤ 1024) ⌝ }
+    requires { ⌜ (role ≡ roleOf kind) × (size ≡ sizeOf kind) × (at ≤ length (now s)) × (counts .nodes ≤ 1024) × (kind ≡ textKind → ⊥) ⌝ }
     ensures next { λ r. ⌜ (r ≡ true → Next kind counts (now (s .entry)) at (now (table .entry))) ⌝ }
     ensures every { λ r. ⌜ ((g : Graph) → Held g counts (now (s .entry)) (now (table .entry)) → Next kind counts (now (s .entry)) at (now (table .entry)) → r ≡ true) ⌝ }
 {
@@ -272,11 +273,5 @@ pub fn is_next(
     if !(listed & ordered & present & has_room(counts, role)) {
         return false;
     }
-    if !is_first(role, s, at, counts, table) {
-        return false;
-    }
-    if kind == kind::TEXT {
-        return text::is_listed(s, at + 4);
-    }
-    true
+    is_first(role, s, at, counts, table)
 }

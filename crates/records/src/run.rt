@@ -4,10 +4,11 @@ use graph::SLOTS;
 use graph::question;
 use graph::scan;
 use ir::Role;
+use ir::kind;
 ghost use mathlib.Core.Path.{_≡_};
 ghost use Prim.Native.Nat.{_≤_};
 ghost use lib.ListN.{length};
-ghost use Rattle.ir.specs.Kinds.{roleOf};
+ghost use Rattle.ir.specs.Kinds.{roleOf, textKind};
 ghost use Rattle.ir.specs.Limits.{maxInput};
 ghost use Rattle.graph.specs.Index.{Next};
 ghost use Rattle.graph.specs.Layout.{sizeOf};
@@ -29,7 +30,7 @@ fn read_run(
     counts: Counts,
     table: &mut [u16; SLOTS],
 ) -> Run
-    requires { ⌜ (role ≡ roleOf kind) × (size ≡ sizeOf kind) × (length (now s) ≤ maxInput) × Scanned (now s) (now table) counts kind from ⌝ }
+    requires { ⌜ (role ≡ roleOf kind) × (size ≡ sizeOf kind) × (length (now s) ≤ maxInput) × Scanned (now s) (now table) counts kind from × (kind ≡ textKind → ⊥) ⌝ }
     ensures scanned { λ r. ⌜ (from ≤ r .at) × Scanned (now (s .entry)) (now (table .exit)) (r .counts) kind (r .at) ⌝ }
     ensures every { λ r. ⌜ (Next kind (r .counts) (now (s .entry)) (r .at) (now (table .exit)) → ⊥) ⌝ }
 {
@@ -44,7 +45,8 @@ fn read_run(
     Run { at, counts: more }
 }
 
-// .. with the role a constant in each call, so that each has a loop of its own, with its questions alone.
+// .. with the role a constant in each call, so that each has a loop of its own, with its questions alone. Texts, whose bytes are asked too, and
+// annihilators are read one by one.
 pub fn read_same(
     kind: u8,
     role: Role,
@@ -56,8 +58,11 @@ pub fn read_same(
 ) -> Run
     requires { ⌜ (role ≡ roleOf kind) × (size ≡ sizeOf kind) × (length (now s) ≤ maxInput) × Scanned (now s) (now table) counts kind from ⌝ }
     ensures scanned { λ r. ⌜ (from ≤ r .at) × Scanned (now (s .entry)) (now (table .exit)) (r .counts) kind (r .at) ⌝ }
-    ensures every { λ r. ⌜ (InRuns role → Next kind (r .counts) (now (s .entry)) (r .at) (now (table .exit)) → ⊥) ⌝ }
+    ensures every { λ r. ⌜ (InRuns role → (kind ≡ textKind → ⊥) → Next kind (r .counts) (now (s .entry)) (r .at) (now (table .exit)) → ⊥) ⌝ }
 {
+    if kind == kind::TEXT {
+        return Run { at: from, counts };
+    }
     match role {
         Role::Unlisted => Run { at: from, counts },
         Role::Node => read_run(kind, Role::Node, size, s, from, counts, table),

@@ -6,15 +6,14 @@ use mathlib.Core.Path.{_≡_, refl, _∙_, sym, ap}
 use mathlib.Core.List.{List}
 use lib.ListN.{length}
 use denote.Ref.{now}
-use borrow.Author.Tests.{not-true, not-false, eq-eqb, ne-eqb}
+use borrow.Author.Tests.{not-true, not-false, ne-eqb}
 use borrow.Author.Needs.{needs}
 use Rattle.ir.specs.Kinds.{textKind}
-use Rattle.text.specs.Listed.{isListedText}
 use Rattle.encoding.specs.Numbers.{byte}
 use Rattle.graph.specs.Questions.{hasListedText}
-use Rattle.graph.specs.Layout.{sizeOf, sizeBy}
+use Rattle.graph.specs.Layout.{sizeBy}
 use Rattle.graph.proofs.Roles.{size-by, and-left, and-right}
-use Rattle.graph.proofs.Asked.{next-of, next-whole, next-tests, next-first, next-text}
+use Rattle.graph.proofs.Asked.{next-of, next-whole, next-tests, next-first}
 use Rattle.graph.proofs.question.is_next.Statement.{statement}
 use Rattle.graph.proofs.question.is_next.Tie as tie
 
@@ -34,10 +33,7 @@ four a b d e h =
 tests : (c : tie.Else3) → (c .before .before .before .before .is-listed .result ≡ true) × (c .before .before .before .orders-no-text .result ≡ true) × (c .before .before .has-nodes .result ≡ true) × (c .before .has-room .result ≡ true)
 tests c = four _ _ _ _ (not-false _ (c .if3 .left))
 
--- question 4 of a text, and of another record
-listed-at : (s : List ℕ) (at kind : ℕ) {t : Bool} → byte s at ≡ kind → kind ≡ textKind → t ≡ isListedText s (at + 4) → hasListedText s at ≡ t
-listed-at s at kind k e f = rw (k, eq-eqb _ _ e) (sym f)
-
+-- question 4 asks nothing of a text where there is none
 no-text : (s : List ℕ) (at kind : ℕ) → byte s at ≡ kind → (kind ≡ textKind → ⊥) → hasListedText s at ≡ true
 no-text s at kind k n = rw (k, ne-eqb _ _ n) refl
 
@@ -83,29 +79,9 @@ is-first-requires c κs =
 
 returns-4 : tie.Need-returns-4
 returns-4 c =
-    let b = c .before .before .before .before .before .before .before .before .before .before .before in
-    (λ e. absurd (false≢true e), λ g h n. absurd (false≢true (sym (not-true _ (c .if4 .taken)) ∙ c .before .is-first .ensures g h ∙ next-first (b .pre .0) (b .pre .1) g h n)))
-
-add-is-listed : tie.Need-add-is-listed
-add-is-listed c = search needs
-
-is-listed-requires-2 : tie.Need-is-listed-requires-2
-is-listed-requires-2 c κs = omega (arith, whole (c .before .before .before .before .before .before .before .before .before .before), c .before .before .before .before .before .before .before .before .before .before .before .before .pre .1, ap sizeOf (c .if5 .taken))
-
-returns-5 : tie.Need-returns-5
-returns-5 c =
-    let b = c .before .before .before .before .before .before .before .before .before .before .before .before .before in
-    let l = c .before .before .before .before in (
-      λ e. next-of (b .pre .0) (b .pre .1) (whole (c .before .before .before .before .before .before .before .before .before .before .before)) (c .before .before .before .before .before .before .before .before .before .if2 .left) (sym (c .before .before .before .before .before .before .before .before .is-listed .ensures) ∙ tests l .0) (sym (c .before .before .before .before .before .before .before .orders-no-text .ensures) ∙ tests l .1) (sym (c .before .before .before .before .before .before .has-nodes .ensures) ∙ tests l .2) (sym (c .before .before .before .before .before .has-room .ensures) ∙ tests l .3) (λ g h. sym (c .before .before .before .is-first .ensures g h) ∙ not-false _ (c .before .before .if4 .left)) (listed-at (now (b .args .s)) (b .args .at) (b .args .kind) (c .before .before .before .before .before .before .before .before .before .if2 .left) (c .before .if5 .taken) (c .is-listed2 .ensures) ∙ e),
-      λ g h n. sym (listed-at (now (b .args .s)) (b .args .at) (b .args .kind) (c .before .before .before .before .before .before .before .before .before .if2 .left) (c .before .if5 .taken) (c .is-listed2 .ensures)) ∙ next-text (b .pre .0) (b .pre .1) g h n,
-    )
-
-returns-6 : tie.Need-returns-6
-returns-6 c =
-    let b = c .before .before .before .before .before .before .before .before .before .before .before .before in
-    let l = c .before .before .before in (
-      λ e. next-of (b .pre .0) (b .pre .1) (whole (c .before .before .before .before .before .before .before .before .before .before)) (c .before .before .before .before .before .before .before .before .if2 .left) (sym (c .before .before .before .before .before .before .before .is-listed .ensures) ∙ tests l .0) (sym (c .before .before .before .before .before .before .orders-no-text .ensures) ∙ tests l .1) (sym (c .before .before .before .before .before .has-nodes .ensures) ∙ tests l .2) (sym (c .before .before .before .before .has-room .ensures) ∙ tests l .3) (λ g h. sym (c .before .before .is-first .ensures g h) ∙ not-false _ (c .before .if4 .left)) (no-text (now (b .args .s)) (b .args .at) (b .args .kind) (c .before .before .before .before .before .before .before .before .if2 .left) (c .if5 .left)),
-      λ g h n. refl,
+    let b = c .before .before .before .before .before .before .before .before .before .before in (
+      λ e. next-of (b .pre .0) (b .pre .1) (whole (c .before .before .before .before .before .before .before .before)) (c .before .before .before .before .before .before .if2 .left) (sym (c .before .before .before .before .before .is-listed .ensures) ∙ tests (c .before) .0) (sym (c .before .before .before .before .orders-no-text .ensures) ∙ tests (c .before) .1) (sym (c .before .before .before .has-nodes .ensures) ∙ tests (c .before) .2) (sym (c .before .before .has-room .ensures) ∙ tests (c .before) .3) (λ g h. sym (c .is-first .ensures g h) ∙ e) (no-text (now (b .args .s)) (b .args .at) (b .args .kind) (c .before .before .before .before .before .before .if2 .left) (b .pre .4)),
+      λ g h n. c .is-first .ensures g h ∙ next-first (b .pre .0) (b .pre .1) g h n,
     )
 
 pub is-next-spec : {M : Type 1} → statement M
@@ -122,8 +98,4 @@ is-next-spec =
     has-room-requires
     returns-3
     is-first-requires
-    returns-4
-    add-is-listed
-    is-listed-requires-2
-    returns-5
-    returns-6)
+    returns-4)

@@ -22,7 +22,7 @@ is-next-requires : tie.Need-is-next-requires Inv-loop μ-loop
 is-next-requires c κs =
     let i = c .before .loop .inv .1 in
     let p = c .before .before .before .pre in
-    (p .0, p .1, i .inside, rw (i .held .counts) (i .few))
+    (p .0, p .1, i .inside, rw (i .held .counts) (i .few), p .4)
 
 index-requires : tie.Need-index-requires Inv-loop μ-loop
 index-requires c κs =
