@@ -65,7 +65,7 @@ numbersMath op (MathIn.F x) b = floatsMath op (asReal (MathIn.F x)) (asReal b)
 numbersMath op MathIn.None b = floatsMath op (asReal MathIn.None) (asReal b)
 
 -- "Vector with Vector or a scalar (Unwired, Int, Float, Bool) goes part by part without that sign rule; a non-finite part gives None.
--- A Rotator, Quat or Color operand gives None.", and so does text. A scalar stands for all three parts
+-- A Rotator, Quat, Color or text operand gives None." A scalar stands for all three parts
 abbrev pub spreadScalar : OptionFloat → OptionVector
 spreadScalar (OptionFloat.Some s) = OptionVector.Some s s s
 spreadScalar OptionFloat.None = OptionVector.None

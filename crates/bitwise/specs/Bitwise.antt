@@ -1,4 +1,4 @@
--- The bitwise gates (document 01, "Corners of semantics.rs": "Bitwise gates take Int and Bool (as 0 or 1); others, Unwired too, give None.
+-- The bitwise gates (document 01, "Corners of semantics.rs": "Bitwise gates take Int and Bool (as 0 or 1); others, Unwired and text too, give None.
 -- Shifts need 0 to 63; left drops high bits, right carries the sign. BitCount is the count of ones of the 64 bits").
 use lib.IntN.{ℤ}
 use Rattle.whole.specs.Bits.{andOf, orOf, xorOf, notOf, nandOf, norOf, shiftLeftOf, shiftRightOf, bitCountOf}

@@ -83,7 +83,7 @@ eqParts (x ∷ xs) (y ∷ ys) = eqS x y && eqParts xs ys
 abbrev pub eqComposite : Value → Value → OptionBool
 eqComposite a b = cond (eqb (variantOf a) (variantOf b)) (OptionBool.Some (eqParts (parts a) (parts b))) OptionBool.None
 
--- Document 02, Wish 7: "Equality is with text byte for byte, with Int by its plain decimal form, ..; with other kinds None."
+-- "text with text byte for byte, text with Int by its plain decimal form", each other pair None
 abbrev pub eqText : ℕ → ℕ → Value → OptionBool
 eqText low high (Value.Int n) = OptionBool.Some (isDecimal low high n)
 eqText low high (Value.Float x) = OptionBool.None
@@ -105,7 +105,7 @@ eqValue (Value.Quat x y z w) b = eqComposite (Value.Quat x y z w) b
 eqValue (Value.Color r g b′ a) b = eqComposite (Value.Color r g b′ a) b
 eqValue (Value.Text low high) b = eqText low high b
 
--- "Unwired takes the other's zero." Document 02, Wish 7: "and with Unwired as empty text"
+-- "Unwired takes the other's zero, beside text the empty text."
 abbrev pub zeroLike : Value → Value
 zeroLike (Value.Int n) = Value.Int (pos 0)
 zeroLike (Value.Float x) = Value.Float floatZero
@@ -145,8 +145,8 @@ equalOf a b = given (eqOf a b)
 unfoldable pub notEqualOf : Operand → Operand → OptionValue
 notEqualOf a b = given (contrary (eqOf a b))
 
--- "Order gates: two Ints exactly; else by float with S, Unwired 0, Bool 0 or 1; composites None." So text too: question 12 keeps
--- every row of theirs away from it
+-- "Order gates: two Ints exactly; else by float with S, Unwired 0, Bool 0 or 1; composites None. Question 12 keeps text from
+-- them"; a text gives None
 abbrev pub floatsBy : (Float → Float → Bool) → OptionFloat → OptionFloat → OptionBool
 floatsBy f (OptionFloat.Some x) (OptionFloat.Some y) = OptionBool.Some (f x y)
 floatsBy f (OptionFloat.Some x) OptionFloat.None = OptionBool.None

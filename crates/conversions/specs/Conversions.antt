@@ -20,8 +20,8 @@ abbrev pub floatOfBool : Bool → Float
 floatOfBool false = floatZero
 floatOfBool true = ofBits binary64 0x3ff0_0000_0000_0000
 
--- "T (truthy): Int or S not zero; a true Bool; Unwired and the four composites are false." Document 02, Wish 7: "Text is false for empty,
--- `0` and `false`, else true."
+-- "T (truthy): Int or S not zero; a true Bool; Unwired and the four composites are false. Text is false for empty, `0` and `false`,
+-- else true"
 abbrev pub truthyValue : Value → Bool
 truthyValue (Value.Int n) = not (eqZ n (pos 0))
 truthyValue (Value.Float x) = ne (sanitizeOf x) floatZero
@@ -67,7 +67,7 @@ abbrev pub mathInOf : Operand → MathIn
 mathInOf Operand.Unwired = MathIn.I (pos 0)
 mathInOf (Operand.Known v) = mathInValue v
 
--- Abs to Ceil, and MathSqrt: "An Unwired operand gives None. Else floats without S, Bool and composites None". An Int that no f64 equals is None.
+-- Abs to Ceil, and MathSqrt: "An Unwired operand gives None. Else floats without S, Bool, composites and text None". An Int that no f64 equals is None.
 abbrev pub asFloatValue : Value → OptionFloat
 asFloatValue (Value.Int n) = intAsF64 n
 asFloatValue (Value.Float x) = OptionFloat.Some x

@@ -11,7 +11,7 @@ use lib.ListN.{length, getD, take, drop, length-drop}
 use lib.Seq.{drop-cons, drop-drop, take-add, length-take-le}
 use borrow.Author.Tests.{ltb-true, ltb-false, leb-true, eqb-true, lt-ltb, le-ltb}
 use Rattle.text.specs.Text.{usedBytes, textOf, textLength, wordsNumber}
-use Rattle.text.specs.Listed.{isChar, areChars, textSize, isListedText}
+use Rattle.text.specs.Listed.{isChar, areChars, textValueSize, isListedText}
 use Rattle.text.proofs.Lengths.{no-bytes, first-byte}
 use Rattle.encoding.specs.Numbers.{byte, numberAt, u64At, bytesOf}
 use Rattle.encoding.specs.Values.{TextRead}
@@ -107,7 +107,7 @@ split (suc m) n s i =
     ∙ omega (arith, p)
 
 -- THE LAW
-pub text-read : (s : List ℕ) (i : ℕ) → ((k : ℕ) → byte s k < 256) → i + textSize ≤ length s → isListedText s i ≡ true → TextRead s i
+pub text-read : (s : List ℕ) (i : ℕ) → ((k : ℕ) → byte s k < 256) → i + textValueSize ≤ length s → isListedText s i ≡ true → TextRead s i
 unfolding isListedText
 text-read s i small room e =
     let few : byte s i ≤ 16 = leb-true (byte s i) 16 (and-left (leb (byte s i) 16) _ e) in
@@ -122,5 +122,5 @@ text-read s i small room e =
       used = text;
       again =
           ap₂ (λ (b : ℕ) (l : List ℕ). b ∷ l) long (ap₂ (λ (a b : List ℕ). a ++ b) low high ∙ sym (take-add 8 8 (drop (i + 1) s)))
-          ∙ sym (ap (take textSize) (drop-cons s i 0 (omega arith) ∙ ap (λ (j : ℕ). byte s i ∷ drop j s) (sym (add-one i))));
+          ∙ sym (ap (take textValueSize) (drop-cons s i 0 (omega arith) ∙ ap (λ (j : ℕ). byte s i ∷ drop j s) (sym (add-one i))));
     }

@@ -10,7 +10,7 @@ use lib.Ieee.{Float as IeeeFloat, ofBits, binary64}
 use Rattle.ieee.specs.Bits.{bitsOf}
 use Rattle.whole.specs.Bits.{toBits, fromBits}
 use Rattle.text.specs.Text.{textOf, textLength}
-use Rattle.text.specs.Listed.{textSize}
+use Rattle.text.specs.Listed.{textValueSize}
 use Rattle.ir.specs.Kinds.{bodyOf, textKind}
 use Rattle.value.specs.declared.Value.{Value}
 use Rattle.value.specs.declared.Value.the-variants.{Int, Float, Bool, Vector, Rotator, Quat, Color, Text}
@@ -103,4 +103,4 @@ pub record PropertyBack (node port : ℕ) (v : Value) (s : List ℕ) (at : ℕ) 
 -- of a text record that question 4 lets through: the text that is read is its used bytes, and written it is the record again, its length too
 pub record TextRead (s : List ℕ) (i : ℕ) : Type 0 where
   pub used : textOf (u64At s (i + 1)) (u64At s (i + 9)) ≡ take (byte s i) (drop (i + 1) s)
-  pub again : valueBytes (textAt s i) ≡ take textSize (drop i s)
+  pub again : valueBytes (textAt s i) ≡ take textValueSize (drop i s)

@@ -8,7 +8,7 @@ ghost use Prim.Native.Nat.{_+_, _≤_, _<_};
 ghost use lib.ListN.{length};
 ghost use mathlib.Core.Bool.{true};
 ghost use Rattle.ir.specs.Kinds.{roleOf, textKind};
-ghost use Rattle.text.specs.Listed.{textSize, isListedText};
+ghost use Rattle.text.specs.Listed.{textValueSize, isListedText};
 ghost use Rattle.ir.specs.declared.Role.{Role};
 ghost use Rattle.encoding.specs.Numbers.{Written};
 ghost use Rattle.encoding.specs.Values.{valueSize, floatAt, textAt, compositeOrTextAt, valueAt, kindOf, floatBytes, boolByte, threeBytes, textBytes, valueBytes, propertyBytes, PropertyBack, TextRead};
@@ -52,7 +52,7 @@ fn read_composite(kind: u8, s: &[u8], at: usize) -> Value
 
 // The text whose length and bytes stand at an offset. The bytes say the length.
 fn read_text(s: &[u8], at: usize) -> Value
-    requires { ⌜ at + textSize ≤ length (now s) ⌝ }
+    requires { ⌜ at + textValueSize ≤ length (now s) ⌝ }
     ensures { λ r. ⌜ r ≡ textAt (now (s .entry)) at ⌝ }
 {
     let low = numbers::read_u64(s, at + 1);
@@ -135,7 +135,7 @@ fn write_three(out: &mut [u8], at: usize, x: f64, y: f64, z: f64) -> usize
 }
 
 fn write_text(out: &mut [u8], at: usize, low: u64, high: u64) -> usize
-    requires { ⌜ at + textSize ≤ length (now out) ⌝ }
+    requires { ⌜ at + textValueSize ≤ length (now out) ⌝ }
     ensures { λ r. ⌜ Written (textBytes low high) (now (out .entry)) (now (out .exit)) at r ⌝ }
 {
     let length = text::length_of(low, high);

@@ -30,7 +30,7 @@ unfoldable pub onIntElse : OptionInt → OptionValue → (ℤ → OptionValue) �
 onIntElse OptionInt.None other f = other
 onIntElse (OptionInt.Some n) other f = f n
 
--- "An Unwired operand gives None. Else floats without S, Bool and composites None": the rule f on an operand that was read as a float, else None
+-- "An Unwired operand gives None. Else floats without S, Bool, composites and text None": the rule f on an operand that was read as a float, else None
 unfoldable pub onFloat : OptionFloat → (Float → OptionValue) → OptionValue
 onFloat OptionFloat.None f = OptionValue.None
 onFloat (OptionFloat.Some x) f = f x

@@ -19,7 +19,7 @@ use Rattle.semantics.specs.Eval.{evalOf}
 abbrev pub variantKind : ℕ → ℕ
 variantKind variant = cond (eqb variant textVariant) textKind (variant + 2)
 
--- the operand at an offset
+-- the operand at an offset; of a text the bytes say the length
 unfoldable pub operandAt : List ℕ → ℕ → Operand
 operandAt s at =
     cond (ltb 0 (byte s at) && leb (byte s at) textVariant) (Operand.Known (valueAt (variantKind (byte s at)) s (at + 1))) Operand.Unwired

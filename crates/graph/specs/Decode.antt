@@ -1,4 +1,4 @@
--- Document 01, "Questions at the door", 1 to 8: what an input is refused with, or the graph of one that is accepted.
+-- Document 01, "Questions at the door", 1 to 8 and 12: what an input is refused with, or the graph of one that is accepted.
 use Prim.Native.Nat.{ℕ, zero, suc, _+_}
 use mathlib.Core.Bool.{cond}
 use mathlib.Core.List.{List}

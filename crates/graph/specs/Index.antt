@@ -44,7 +44,7 @@ pub record Held (g : Graph) (c : Counts) (s : List ℕ) (table : List ℕ) : Typ
   pub counts : c ≡ countsOf g
   pub indexed : Indexed (g .properties) s table
 
--- the record at an offset, of this role, is whole and listed, and its nodes are among n
+-- the record at an offset, of this role, has the bytes that its role asks of, these are listed, and its nodes are among n
 pub record Sound (n : ℕ) (role : Role) (s : List ℕ) (at : ℕ) : Type 0 where
   pub whole : at + sizeBy role ≤ length s
   pub listed : isListed role s at ≡ true

@@ -47,7 +47,7 @@ isWirePort port = ltb port valuePort
 abbrev pub isPropertyPort : ℕ → Bool
 isPropertyPort port = leb port valuePort
 
--- a Bool record's byte is 0 or 1; the value of another kind is any
+-- a Bool record's byte is 0 or 1; the first byte of another value is any here
 abbrev pub isValueByte : ℕ → ℕ → Bool
 isValueByte kind b = not (eqb kind 5) || leb b 1
 

@@ -168,7 +168,7 @@ fn word(x: u8) -> u64
     x as u64
 }
 
-// The word that holds a scalar property, whose bytes stand at an offset.
+// The word that holds a scalar property, whose bytes stand at an offset. Of another value it is not used.
 fn read_word(kind: u8, s: &[u8], at: usize) -> u64
     requires { ⌜ (roleOf kind ≡ Role.Property) × (at + valueSize kind ≤ length (now s)) ⌝ }
     ensures { λ r. ⌜ r ≡ wordAt kind (now (s .entry)) at ⌝ }

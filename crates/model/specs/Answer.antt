@@ -15,7 +15,7 @@ unfoldable pub each : {A : Type 0} → (A → List ℕ) → List A → List ℕ
 each f [] = []
 each f (x ∷ xs) = f x ++ each f xs
 
--- "each known node in number order as kinds 03 to 09 with port Value"
+-- "each known node in number order as kinds 03 to 09 or 0C with port Value"
 unfoldable pub knownBytes : ℕ → Option Value → List ℕ
 knownBytes n none = []
 knownBytes n (some v) = propertyBytes n valuePort v

@@ -1,4 +1,4 @@
--- What comes of an input: what its worklist leaves in the arrays, or a refusal by questions 1 to 8.
+-- What comes of an input: what its worklist leaves in the arrays, or a refusal by questions 1 to 8 and 12.
 use Prim.Native.Nat.{ℕ}
 use mathlib.Core.Path.{_≡_}
 use mathlib.Core.List.{List}
@@ -26,7 +26,7 @@ pub record Settled (input : List ℕ) (own : Map Value) (c : Counts) (kinds word
   pub accepts : Accepts input c
   pub finished : Finished (graphOf input) own kinds words actions details pops
 
--- the input is refused by questions 1 to 8, and the arrays are as they were
+-- the input is refused by questions 1 to 8 and 12, and the arrays are as they were
 pub record Refuses (input : List ℕ) (number place : ℕ) (kinds words actions details kinds' words' actions' details' : List ℕ) : Type 0 where
   pub verdict : decode input ≡ refused number place
   pub kinds-stay : kinds' ≡ kinds

@@ -99,7 +99,7 @@ pub fn propagate_graph(
     )
 }
 
-// Questions 1 to 8 of an input, and the worklist of an accepted one. Whatever the arrays held is cleared; a refusal leaves
+// Questions 1 to 8 and 12 of an input, and the worklist of an accepted one. Whatever the arrays held is cleared; a refusal leaves
 // them as they were.
 pub fn propagate(
     input: &[u8],

@@ -24,7 +24,7 @@ pub record Scanned (s : List ℕ) (table : List ℕ) (c : Counts) (last at : ℕ
   pub enough : length s ≤ at + fuel
   pub same : scan (length s) 0 empty s 0 ≡ scan fuel last graph s at
 
--- the roles whose records are read in runs
+-- the roles whose records are read in runs, texts aside
 abbrev pub InRuns : Role → Type 0
 InRuns Unlisted = ⊥
 InRuns Node = Unit {0}

@@ -1,4 +1,4 @@
-// Document 01's records: decoding of an input by questions 1 to 8, and access to the accepted graph.
+// Document 01's records: decoding of an input by questions 1 to 8 and 12, and access to the accepted graph.
 ghost use mathlib.Core.Path.{_≡_};
 ghost use Rattle.graph.specs.Decode.{decode as decodeOf, graphOf};
 ghost use Rattle.graph.specs.Refusals.{reportOf, reported};

@@ -14,7 +14,7 @@ nonFiniteFloat (Value.Quat x y z w) = false
 nonFiniteFloat (Value.Color r g b a) = false
 nonFiniteFloat (Value.Text low high) = false
 
--- every number of the value is finite; no gate gives a Rotator, Quat, Color or text
+-- a value that a gate may give, every number of it finite: no gate gives a Rotator, Quat, Color or text
 abbrev pub finiteValue : Value → Bool
 finiteValue (Value.Int n) = true
 finiteValue (Value.Float x) = finiteOf x

@@ -1,4 +1,4 @@
--- What the first stages give of an input: the refusal's number of questions 1 to 8, or 0, and the worklist's pops.
+-- What the first stages give of an input: the refusal's number of questions 1 to 8 and 12, or 0, and the worklist's pops.
 use Prim.Native.Nat.{ℕ}
 use Rattle.graph.specs.Decode.{Verdict, accepted, refused}
 use Rattle.model.specs.Demands.{foldOf}

@@ -6,7 +6,7 @@ ghost use mathlib.Core.Path.{_≡_};
 ghost use Rattle.graph.specs.Decode.{decode};
 ghost use Rattle.stages.specs.Stages.{numberIn, popsIn};
 
-// The refusal's number of questions 1 to 8, or 0, and the pops of the worklist.
+// The refusal's number of questions 1 to 8 and 12, or 0, and the pops of the worklist.
 #[no_mangle]
 pub extern "C" fn mezburiko_worklist(input: &[u8], pops: &mut usize) -> u8
     ensures number { λ r. ⌜ r ≡ numberIn (decode (now (input .entry))) ⌝ }

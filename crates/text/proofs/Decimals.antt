@@ -5,9 +5,12 @@ use mathlib.Core.Path.{_≡_, refl, sym, ap, _∙_}
 use mathlib.Core.Bool.{Bool, true, false, cond}
 use mathlib.Core.List.{List, [], _∷_, _++_}
 use lib.Dec.{eqb}
+use lib.ListN.{length}
 use lib.IntN.{ℤ, pos, negsuc}
 use borrow.Author.Tests.{eqb-true, eqb-false, ne-eqb}
-use Rattle.text.specs.Decimal.{lastDigits, digits, decimal, readAfter, AreDigits, StartsAboveZero, Says, IsPlain}
+use Rattle.text.specs.Text.{maxText, usedBytes, wordsNumber, textOf, isText}
+use Rattle.text.proofs.Texts.{bytes-same}
+use Rattle.text.specs.Decimal.{lastDigits, digits, decimal, isDecimal, readAfter, AreDigits, StartsAboveZero, Says, IsPlain}
 
 one-more : (n : ℕ) (ds : List ℕ) (d : ℕ) → readAfter n (ds ++ (d ∷ [])) ≡ 10 * readAfter n ds + (d - 48)
 unfolding readAfter
@@ -65,8 +68,31 @@ all-digits (suc n) m = pick (all-digits n (m / 10)) (eqb m 0)
 says : (m : ℕ) → Says (digits m) m
 says m = record { digits-alone = all-digits m m; reads = reads m m (omega arith); no-zeros = λ h. starts m m (omega arith) }
 
-pub plain : (n : ℤ) → IsPlain n (decimal n)
+plain : (n : ℤ) → IsPlain n (decimal n)
 unfolding decimal IsPlain
 plain (pos zero) = refl
 plain (pos (suc m)) = rw (ne-eqb (suc m) 0 (λ (e : suc m ≡ 0). omega arith)) (says (suc m))
 plain (negsuc m) = (refl, says (suc m))
+
+-- ---- no text is longer than its room
+
+few-bytes : (n x : ℕ) → length (usedBytes n x) ≤ n
+unfolding usedBytes
+few-bytes zero x = omega arith
+few-bytes (suc n) x = pick (few-bytes n (x / 256)) (eqb x 0)
+  where
+    pick : length (usedBytes n (x / 256)) ≤ n → (b : Bool) → length (cond b [] (x % 256 ∷ usedBytes n (x / 256))) ≤ suc n
+    pick h true = omega arith
+    pick h false = omega arith
+
+too-long : (low high : ℕ) (n : ℤ) {t : Bool} → t ≡ isDecimal low high n → maxText < length (decimal n) → t ≡ false
+unfolding isDecimal
+too-long low high n e h = e ∙ pick (isText low high (decimal n)) refl
+  where
+    pick : (b : Bool) → isText low high (decimal n) ≡ b → b ≡ false
+    pick true q = absurd (omega (arith, h, few-bytes maxText (wordsNumber low high), ap length (bytes-same (textOf low high) (decimal n) q)))
+    pick false q = refl
+
+-- what is told of an Int beside a text
+pub told : (low high : ℕ) (n : ℤ) {t : Bool} → t ≡ isDecimal low high n → (t ≡ isDecimal low high n) × (IsPlain n (decimal n) × (maxText < length (decimal n) → t ≡ false))
+told low high n e = (e, (plain n, too-long low high n e))

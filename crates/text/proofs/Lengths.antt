@@ -46,17 +46,17 @@ bytes-bits (suc k) =
     pow-suc 256 k ∙ ap (λ (x : ℕ). x * 256) (bytes-bits k) ∙ sym (pow-add 2 (8 * k) 8) ∙ ap (λ (i : ℕ). 2 ^ i) e
 
 -- by the zeros above the highest place
-pub by-zeros : (x : ℕ) → Word x → (71 - leadingZeros 64 x) / 8 ≡ wordLength x
+pub by-zeros : (x : ℕ) → Word x → (64 - leadingZeros 64 x + 7) / 8 ≡ wordLength x
 by-zeros x w = pick (ℕ-discrete x 0)
   where
-    pick : Dec (x ≡ 0) → (71 - leadingZeros 64 x) / 8 ≡ wordLength x
-    pick (yes e) = ap (λ (y : ℕ). (71 - leadingZeros 64 y) / 8) e ∙ ap (λ (z : ℕ). (71 - z) / 8) (leading-of-zero 64) ∙ sym (ap wordLength e ∙ ap length (no-bytes 8))
+    pick : Dec (x ≡ 0) → (64 - leadingZeros 64 x + 7) / 8 ≡ wordLength x
+    pick (yes e) = ap (λ (y : ℕ). (64 - leadingZeros 64 y + 7) / 8) e ∙ ap (λ (z : ℕ). (64 - z + 7) / 8) (leading-of-zero 64) ∙ sym (ap wordLength e ∙ ap length (no-bytes 8))
     pick (no d) =
         let t = leading-top 64 x (omega arith) w in
         let k = t .0 / 8 in
         let low : 256 ^ k ≤ x = le-trans (rw (bytes-bits k) (pow-mono {i = 8 * k} {j = t .0} (omega arith))) (t .2) in
         let high : x < 256 ^ suc k = lt-of-lt-of-le (t .3) (rw (bytes-bits (suc k)) (pow-mono {i = suc (t .0)} {j = 8 * suc k} (omega arith))) in
-        let places : (71 - leadingZeros 64 x) / 8 ≡ suc k = omega (arith, t .1) in
+        let places : (64 - leadingZeros 64 x + 7) / 8 ≡ suc k = omega (arith, t .1) in
         places ∙ sym (sized 8 k x (omega (arith, t .1)) low high)
 
 -- ---- two words

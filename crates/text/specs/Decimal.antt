@@ -14,7 +14,7 @@ zeroDigit = 48
 abbrev pub minusSign : ℕ
 minusSign = 45
 
--- the last n digits of a number, the first of them not 0; 0 has none
+-- the last n digits of a number, or all where it has fewer; 0 has none
 unfoldable pub lastDigits : ℕ → ℕ → List ℕ
 lastDigits zero m = []
 lastDigits (suc n) m = cond (eqb m 0) [] (lastDigits n (m / 10) ++ ((zeroDigit + m % 10) ∷ []))
@@ -26,12 +26,6 @@ digits m = lastDigits m m
 unfoldable pub decimal : ℤ → List ℕ
 decimal (pos m) = cond (eqb m 0) (zeroDigit ∷ []) (digits m)
 decimal (negsuc m) = minusSign ∷ digits (suc m)
-
-unfoldable pub isDigits : ℕ → ℕ → ℕ → Bool
-isDigits low high m = isText low high (digits m)
-
-unfoldable pub isNegated : ℕ → ℕ → ℕ → Bool
-isNegated low high m = isText low high (minusSign ∷ digits m)
 
 unfoldable pub isDecimal : ℕ → ℕ → ℤ → Bool
 isDecimal low high n = isText low high (decimal n)
@@ -64,3 +58,11 @@ IsPlain (pos zero) bs = bs ≡ zeroDigit ∷ []
 IsPlain (pos (suc m)) bs = Says bs (suc m)
 IsPlain (negsuc m) [] = ⊥
 IsPlain (negsuc m) (b ∷ bs) = (b ≡ minusSign) × Says bs (suc m)
+
+-- ---- digits and a minus sign by themselves
+
+unfoldable pub isDigits : ℕ → ℕ → ℕ → Bool
+isDigits low high m = isText low high (digits m)
+
+unfoldable pub isNegated : ℕ → ℕ → ℕ → Bool
+isNegated low high m = isText low high (minusSign ∷ digits m)

@@ -1,5 +1,5 @@
--- Document 01, "0C text: node 2, port 1, length 1 (0 to 16), then 16 bytes, each used one from 32 to 126 and the rest 0". The 16 bytes are two
--- words, low byte first. A used byte isn't 0, so the words say the length too.
+-- Document 01, "0C text: .. length 1 (0 to 16), then 16 bytes, each used one from 32 to 126 decimal and the rest 0". The 16 bytes are two words,
+-- low byte first. A used byte isn't 0, so the words say the length too.
 use Prim.Native.Nat.{ℕ, zero, suc, _+_, _*_, _/_, _%_, _^_}
 use mathlib.Core.Bool.{Bool, true, false, cond, _&&_, _||_}
 use mathlib.Core.List.{List, [], _∷_}
@@ -23,9 +23,6 @@ wordsNumber low high = low + 2 ^ 64 * high
 abbrev pub textOf : ℕ → ℕ → List ℕ
 textOf low high = usedBytes maxText (wordsNumber low high)
 
-abbrev pub wordLength : ℕ → ℕ
-wordLength x = length (usedBytes 8 x)
-
 abbrev pub textLength : ℕ → ℕ → ℕ
 textLength low high = length (textOf low high)
 
@@ -39,6 +36,18 @@ eqBytes (a ∷ xs) (b ∷ ys) = eqb a b && eqBytes xs ys
 abbrev pub isText : ℕ → ℕ → List ℕ → Bool
 isText low high bs = eqBytes (textOf low high) bs
 
--- "Text is false for empty, `0` and `false`, else true."
+-- `0` and `false`
+abbrev pub zeroText : List ℕ
+zeroText = 48 ∷ []
+
+abbrev pub falseText : List ℕ
+falseText = 102 ∷ 97 ∷ 108 ∷ 115 ∷ 101 ∷ []
+
+-- "Text is false for empty, `0` and `false`, else true"
 unfoldable pub isFalse : ℕ → ℕ → Bool
-isFalse low high = isText low high [] || isText low high (48 ∷ []) || isText low high (102 ∷ 97 ∷ 108 ∷ 115 ∷ 101 ∷ [])
+isFalse low high = isText low high [] || isText low high zeroText || isText low high falseText
+
+-- ---- a word by itself
+
+abbrev pub wordLength : ℕ → ℕ
+wordLength x = length (usedBytes 8 x)

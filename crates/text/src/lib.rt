@@ -1,15 +1,14 @@
 // Short texts: 16 bytes in two words, low byte first. A text ends with its last byte that isn't 0.
 ghost use mathlib.Core.Path.{_≡_};
-ghost use Prim.Native.Nat.{_+_, _≤_};
+ghost use mathlib.Core.Bool.{false};
+ghost use Prim.Native.Nat.{_+_, _≤_, _<_};
 ghost use lib.ListN.{length};
-ghost use Rattle.text.specs.Text.{textOf, isText, wordLength, textLength, isFalse};
-ghost use Rattle.text.specs.Listed.{isChar, textSize, isListedText};
+ghost use Rattle.text.specs.Text.{maxText, textOf, isText, wordLength, textLength, isFalse};
+ghost use Rattle.text.specs.Listed.{isChar, textValueSize, isListedText};
 ghost use Rattle.text.specs.Decimal.{isDigits, isNegated, decimal, isDecimal, IsPlain};
 
 // How many bytes a text has at most.
-const MAX_LENGTH: u8 = 16;
-
-const ROOM: usize = 16;
+const MAX_LENGTH: usize = 16;
 
 // The bytes that a text may have: space to tilde.
 const FIRST_CHAR: u8 = 32;
@@ -22,6 +21,8 @@ const ZERO_DIGIT: u64 = 48;
 
 // `false` as a word.
 const FALSE: u64 = 0x65_73_6C_61_66;
+
+const WORD_BITS: u32 = 64;
 
 // The place of a word's highest byte.
 const TOP: u64 = 0x0100_0000_0000_0000;
@@ -72,6 +73,7 @@ fn is_negated(low: u64, high: u64, n: u64) -> bool
 pub fn is_decimal(low: u64, high: u64, n: i64) -> bool
     ensures equal { λ r. ⌜ r ≡ isDecimal low high n ⌝ }
     ensures plain { λ _. ⌜ IsPlain n (decimal n) ⌝ }
+    ensures long { λ r. ⌜ (maxText < length (decimal n) → r ≡ false) ⌝ }
 {
     let size = whole::unsigned_abs(n);
     if whole::less(n, 0) {
@@ -87,8 +89,8 @@ pub fn is_decimal(low: u64, high: u64, n: i64) -> bool
 fn word_length(x: u64) -> u8
     ensures { λ r. ⌜ (r ≡ wordLength x) × (r ≤ 8) ⌝ }
 {
-    let zeros = u64::leading_zeros(x);
-    ((71 - zeros) / 8) as u8
+    let bits = WORD_BITS - u64::leading_zeros(x);
+    ((bits + 7) / 8) as u8
 }
 
 // The length of a text.
@@ -101,8 +103,14 @@ pub fn length_of(low: u64, high: u64) -> u8
     8 + word_length(high)
 }
 
+fn wide(x: u8) -> usize
+    ensures { λ r. ⌜ (r ≡ x) × (r < 256) ⌝ }
+{
+    x as usize
+}
+
 // Whether a byte may stand at a place of a text of some length.
-fn is_char(length: u8, place: u8, x: u8) -> bool
+fn is_char(length: usize, place: usize, x: u8) -> bool
     ensures { λ r. ⌜ r ≡ isChar length place x ⌝ }
 {
     if place < length {
@@ -114,16 +122,16 @@ fn is_char(length: u8, place: u8, x: u8) -> bool
 
 // Whether a length and bytes that a text may have stand at an offset.
 pub fn is_listed(s: &[u8], at: usize) -> bool
-    requires { ⌜ at + textSize ≤ length (now s) ⌝ }
+    requires { ⌜ at + textValueSize ≤ length (now s) ⌝ }
     ensures { λ r. ⌜ r ≡ isListedText (now (s .entry)) at ⌝ }
 {
-    let length = s[at];
+    let length = wide(s[at]);
     if MAX_LENGTH < length {
         return false;
     }
     let mut i: usize = 0;
-    while i < ROOM {
-        if !is_char(length, i as u8, s[at + 1 + i]) {
+    while i < MAX_LENGTH {
+        if !is_char(length, i, s[at + 1 + i]) {
             return false;
         }
         i = i + 1;

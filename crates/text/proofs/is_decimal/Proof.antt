@@ -5,7 +5,7 @@ use native.Mathlib.Omega.{arith}
 use mathlib.Core.Path.{sym, _∙_, ap}
 use mir.Facts.{toZ-ofZ}
 use Rattle.text.proofs.Digits.{below-zero, zero-text, above-zero}
-use Rattle.text.proofs.Decimals.{plain}
+use Rattle.text.proofs.Decimals.{told}
 use borrow.Author.Needs.{needs}
 use Rattle.text.proofs.is_decimal.Statement.{statement}
 use Rattle.text.proofs.is_decimal.Tie as tie
@@ -20,16 +20,16 @@ is-negated-requires : tie.Need-is-negated-requires
 is-negated-requires c κs = search needs
 
 returns : tie.Need-returns
-returns c = (c .is-negated .ensures ∙ below-zero _ _ _ (omega arith) (omega arith) _ (ap (λ (z : ℤ). ltZ z (pos 0)) (sym (toZ-ofZ (c .before .before .before .before .fits .n))) ∙ sym (c .before .before .less .ensures) ∙ c .before .if1 .taken) (c .before .before .before .unsigned-abs .ensures ∙ ap natAbs (toZ-ofZ (c .before .before .before .before .fits .n))), plain _)
+returns c = told _ _ _ (c .is-negated .ensures ∙ below-zero _ _ _ (omega arith) (omega arith) _ (ap (λ (z : ℤ). ltZ z (pos 0)) (sym (toZ-ofZ (c .before .before .before .before .fits .n))) ∙ sym (c .before .before .less .ensures) ∙ c .before .if1 .taken) (c .before .before .before .unsigned-abs .ensures ∙ ap natAbs (toZ-ofZ (c .before .before .before .before .fits .n))))
 
 returns-2 : tie.Need-returns-2
-returns-2 c = (zero-text _ _ _ (omega arith) (omega arith) _ (ap (λ (z : ℤ). ltZ z (pos 0)) (sym (toZ-ofZ (c .before .before .before .before .fits .n))) ∙ sym (c .before .before .less .ensures) ∙ c .before .if1 .left) (c .before .before .before .unsigned-abs .ensures ∙ ap natAbs (toZ-ofZ (c .before .before .before .before .fits .n))) (c .if2 .taken), plain _)
+returns-2 c = told _ _ _ (zero-text _ _ _ (omega arith) (omega arith) _ (ap (λ (z : ℤ). ltZ z (pos 0)) (sym (toZ-ofZ (c .before .before .before .before .fits .n))) ∙ sym (c .before .before .less .ensures) ∙ c .before .if1 .left) (c .before .before .before .unsigned-abs .ensures ∙ ap natAbs (toZ-ofZ (c .before .before .before .before .fits .n))) (c .if2 .taken))
 
 is-digits-requires : tie.Need-is-digits-requires
 is-digits-requires c κs = search needs
 
 returns-3 : tie.Need-returns-3
-returns-3 c = (c .is-digits .ensures ∙ above-zero _ _ _ (omega arith) (omega arith) _ (ap (λ (z : ℤ). ltZ z (pos 0)) (sym (toZ-ofZ (c .before .before .before .before .before .fits .n))) ∙ sym (c .before .before .before .less .ensures) ∙ c .before .before .if1 .left) (c .before .before .before .before .unsigned-abs .ensures ∙ ap natAbs (toZ-ofZ (c .before .before .before .before .before .fits .n))) (c .before .if2 .left), plain _)
+returns-3 c = told _ _ _ (c .is-digits .ensures ∙ above-zero _ _ _ (omega arith) (omega arith) _ (ap (λ (z : ℤ). ltZ z (pos 0)) (sym (toZ-ofZ (c .before .before .before .before .before .fits .n))) ∙ sym (c .before .before .before .less .ensures) ∙ c .before .before .if1 .left) (c .before .before .before .before .unsigned-abs .ensures ∙ ap natAbs (toZ-ofZ (c .before .before .before .before .before .fits .n))) (c .before .if2 .left))
 
 pub is-decimal-spec : {M : Type 1} → statement M
 is-decimal-spec =

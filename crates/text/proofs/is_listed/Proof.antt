@@ -16,19 +16,19 @@ Inv-loop s at length i₀ i = (i ≤ 16) × (areChars length i s (at + 1) ≡ tr
 abbrev μ-loop : tie.MeasureT-loop
 μ-loop s at length i₀ i = 16 - i
 
-shared-slice-read-length : tie.Need-shared-slice-read-length Inv-loop μ-loop
-shared-slice-read-length c = search needs
+shared-slice-read-wide : tie.Need-shared-slice-read-wide Inv-loop μ-loop
+shared-slice-read-wide c = search needs
+
+wide-requires : tie.Need-wide-requires Inv-loop μ-loop
+wide-requires c κs = search needs
 
 returns : tie.Need-returns Inv-loop μ-loop
 unfolding isListedText
-returns c = rw (lt-leb _ _ (c .if1 .taken))
+returns c = rw (← (c .before .wide .ensures .0), lt-leb _ _ (c .if1 .taken))
 
 loop-holds : tie.Need-loop-holds Inv-loop μ-loop
 unfolding areChars
 loop-holds c = (omega arith, refl)
-
-cast-is-char : tie.Need-cast-is-char Inv-loop μ-loop
-cast-is-char c = search needs
 
 add-is-char : tie.Need-add-is-char Inv-loop μ-loop
 add-is-char c = search needs
@@ -44,7 +44,7 @@ is-char-requires c κs = search needs
 
 returns-2 : tie.Need-returns-2 Inv-loop μ-loop
 unfolding isListedText
-returns-2 c = rw (le-leb _ _ (c .before .before .before .before .before .if1 .left)) (sym (one-wrong _ 16 _ _ _ (c .before .before .before .loop-test .taken) (sym (c .before .is-char .ensures) ∙ not-true _ (c .if2 .taken))))
+returns-2 c = rw (← (c .before .before .before .before .before .before .wide .ensures .0), le-leb _ _ (c .before .before .before .before .before .if1 .left)) (sym (one-wrong _ 16 _ _ _ (c .before .before .before .loop-test .taken) (sym (c .before .is-char .ensures) ∙ not-true _ (c .if2 .taken))))
 
 add-i : tie.Need-add-i Inv-loop μ-loop
 add-i c = search needs
@@ -57,7 +57,7 @@ loop-again c = (omega arith, one-right _ _ _ _ (c .before .before .before .befor
 
 returns-3 : tie.Need-returns-3 Inv-loop μ-loop
 unfolding isListedText
-returns-3 c = let e : c .before .loop .i ≡ 16 = omega arith in rw (le-leb _ _ (c .before .before .if1 .left)) (sym (rw e at (c .before .loop .inv .1)))
+returns-3 c = let e : c .before .loop .i ≡ 16 = omega arith in rw (← (c .before .before .before .wide .ensures .0), le-leb _ _ (c .before .before .if1 .left)) (sym (rw e at (c .before .loop .inv .1)))
 
 pub is-listed-spec : {M : Type 1} → statement M
 is-listed-spec =
@@ -65,10 +65,10 @@ is-listed-spec =
     (tie.spec
     Inv-loop
     μ-loop
-    shared-slice-read-length
+    shared-slice-read-wide
+    wide-requires
     returns
     loop-holds
-    cast-is-char
     add-is-char
     add-is-char-2
     shared-slice-read-is-char

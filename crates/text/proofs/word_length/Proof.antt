@@ -6,8 +6,11 @@ use Rattle.text.proofs.Lengths.{by-zeros}
 use Rattle.text.proofs.word_length.Statement.{statement}
 use Rattle.text.proofs.word_length.Tie as tie
 
-sub-result : tie.Need-sub-result
-sub-result c = omega (arith, leading-le 64 (c .args .x))
+sub-bits : tie.Need-sub-bits
+sub-bits c = leading-le 64 (c .args .x)
+
+add-result : tie.Need-add-result
+add-result c = search needs
 
 cast-result : tie.Need-cast-result
 cast-result c = search needs
@@ -16,4 +19,4 @@ returns : tie.Need-returns
 returns c = (by-zeros _ (omega arith), omega arith)
 
 pub word-length-spec : {M : Type 1} → statement M
-word-length-spec = tie.close (tie.spec sub-result cast-result returns)
+word-length-spec = tie.close (tie.spec sub-bits add-result cast-result returns)
