@@ -3,7 +3,7 @@ use Prim.Native.Nat.{ℕ, zero, suc, _+_, _*_, _≤_, _<_}
 use native.Mathlib.Omega.{arith}
 use native.Mathlib.Numerals.{add-one}
 use native.Mathlib.Decide.{ℕ-discrete}
-use mathlib.Core.Path.{_≡_, refl, sym, subst}
+use mathlib.Core.Path.{_≡_, refl, subst}
 use mathlib.Core.Bool.{Bool, true, false, cond}
 use mathlib.Core.Option.{Option, none, some}
 use mathlib.Core.List.{List, []}
@@ -15,7 +15,7 @@ use Rattle.ir.specs.Kinds.{roleOf, bodyOf}
 use Rattle.ir.specs.declared.Role.the-variants.{Property}
 use Rattle.ir.specs.Ports.{valuePort}
 use Rattle.encoding.specs.Numbers.{bytesOf}
-use Rattle.encoding.specs.Values.{kindOf, valueBytes, headBytes, propertyBytes}
+use Rattle.encoding.specs.Values.{valueBytes, headBytes, propertyBytes}
 use Rattle.encoding.specs.Words.{heldCompositeOrText, heldValue}
 use Rattle.encoding.proofs.Sizes.{by-kind, property-kind}
 use Rattle.value.specs.declared.Value.{Value}

@@ -1,6 +1,6 @@
 -- The words of a value hold it.
 use Prim.Native.Nat.{ℕ, _^_, _≤_, _<_}
-use mathlib.Core.Path.{_≡_, refl, sym, ap, subst, _∙_}
+use mathlib.Core.Path.{_≡_, refl, sym, ap, _∙_}
 use mathlib.Core.Bool.{Bool as Flag}
 use mathlib.Core.List.{[], _∷_}
 use lib.ListN.{length}

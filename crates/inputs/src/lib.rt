@@ -17,7 +17,6 @@ ghost use mathlib.Core.Bool.{true, false};
 ghost use mathlib.Core.Option.{Option};
 ghost use Prim.Native.Nat.{_+_, _<_, _≤_};
 ghost use lib.ListN.{length, getD};
-ghost use Rattle.ir.specs.Variants.{textVariant};
 ghost use Rattle.ir.specs.Classes.{classCount};
 ghost use Rattle.ir.specs.Limits.{maxNodes, maxWires};
 ghost use Rattle.ir.specs.Ports.{valuePort};

@@ -2,15 +2,14 @@
 use Prim.Native.Nat.{ℕ, zero, suc, _+_, _*_, _/_, _%_, _^_, _≤_, _<_}
 use native.Mathlib.Omega.{arith}
 use native.Mathlib.Nat.{mul-le-mul-left, le-trans}
-use mathlib.Core.Path.{_≡_, refl, sym, ap, _∙_, subst}
+use mathlib.Core.Path.{_≡_, refl, sym, ap, _∙_}
 use mathlib.Core.Bool.{Bool, true, false, cond, _&&_, true≢false}
 use mathlib.Core.List.{List, [], _∷_, _++_, append-assoc, append-nil}
 use lib.Dec.{eqb}
 use lib.IntN.{ℤ, pos, negsuc, natAbs}
 use lib.Signed.{ltZ}
 use borrow.Author.Tests.{ltb-true, eq-eqb, ne-eqb}
-use Rattle.whole.specs.Compare.{eqZ}
-use Rattle.text.specs.Text.{wordsNumber, textOf, isText}
+use Rattle.text.specs.Text.{wordsNumber, isText}
 use Rattle.text.specs.Decimal.{lastDigits, digits, decimal, isDigits, isNegated, isDecimal}
 use Rattle.text.proofs.Texts.{numberOf, Chars, Word, below, is-text, same-test, words-test, short-test}
 

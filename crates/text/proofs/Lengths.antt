@@ -6,9 +6,7 @@ use lib.Count.{leadingZeros, leading-of-zero, leading-top}
 use native.Mathlib.Nat.{le-trans, lt-of-lt-of-le, pow-suc, pow-succ', one-le-pow, suc-add, zero-add, div-one, div-le-self, div-div-eq-div-mul}
 use native.Mathlib.Decide.{ℕ-discrete}
 use mathlib.Core.Path.{_≡_, refl, sym, ap, _∙_}
-use mathlib.Core.Bool.{true, false}
 use mathlib.Core.List.{List, [], _∷_}
-use lib.Dec.{eqb}
 use lib.ListN.{length}
 use borrow.Author.Tests.{ne-eqb}
 use Rattle.text.specs.Text.{usedBytes, wordsNumber, wordLength, textLength}

@@ -1,13 +1,13 @@
 -- The bytes of a text, one after the other.
-use Prim.Native.Nat.{ℕ, zero, suc, _+_, _≤_, _<_}
+use Prim.Native.Nat.{ℕ, zero, suc, _+_, _<_}
 use native.Mathlib.Omega.{arith}
 use native.Mathlib.Numerals.{add-one}
 use native.Mathlib.Decide.{ℕ-discrete}
-use mathlib.Core.Path.{_≡_, refl, sym, ap, _∙_}
+use mathlib.Core.Path.{_≡_, ap, _∙_}
 use mathlib.Core.Bool.{Bool, true, false, _&&_, and-false}
 use mathlib.Core.List.{List}
 use lib.ListN.{getD}
-use Rattle.text.specs.Listed.{isChar, areChars, isListedText}
+use Rattle.text.specs.Listed.{isChar, areChars}
 
 -- a byte that may not stand there
 pub one-wrong : (length n i : ℕ) (s : List ℕ) (at : ℕ) → i < n → isChar length i (getD s (at + i) 0) ≡ false → areChars length n s at ≡ false

@@ -1,6 +1,5 @@
 -- `text::is_char` meets its contract.
 use borrow.Author.Tests.{lt-ltb, le-ltb}
-use borrow.Author.Needs.{needs}
 use Rattle.text.proofs.is_char.Statement.{statement}
 use Rattle.text.proofs.is_char.Tie as tie
 
