@@ -18,7 +18,7 @@ use Rattle.model.specs.Offer.{PlanAction}
 use Rattle.model.specs.Worklist.{worklist}
 use Rattle.model.specs.Rewrite.{rewriteWires}
 use Rattle.model.specs.Answer.{each, knownBytes, fateBytes, answer}
-use Rattle.model.specs.Outcome.{endlessIndex, wireOffset, ending, counted, wires, Result, folds, refuses, measured, rewritten, answered, foldGraph}
+use Rattle.model.specs.Outcome.{endlessIndex, wireOffset, ending, counted, wires, Result, folds, refuses, measured, rewritten, answered, foldGraph, foldBytes}
 use Rattle.model.proofs.Each.{wires-size}
 use Rattle.state.specs.Planned.{shapeAt, shapeOf, literalOf, valued, planOf, Holds}
 use Rattle.answer.specs.Nodes.{knownRecords, literalFate, fateBy, fateRecords}
@@ -27,7 +27,7 @@ use Rattle.folding.proofs.Alike.{wires-same, index-same, shape-alike}
 -- ---- the bytes
 
 -- a fate by the action
-fate-same : (ws : List Wire) (known : Map Value) (actions details : List ℕ) (i : ℕ) → getD actions i 0 ≤ 3
+pub fate-same : (ws : List Wire) (known : Map Value) (actions details : List ℕ) (i : ℕ) → getD actions i 0 ≤ 3
     → fateBytes i (planOf ws known actions details i) ≡ fateBy i (getD actions i 0) (known i)
 unfolding fateBytes planOf shapeOf shapeAt valued fateBy literalFate
 fate-same ws known actions details i h = go (getD actions i 0) h (ℕ-discrete (getD actions i 0) 0) (ℕ-discrete (getD actions i 0) 1) (ℕ-discrete (getD actions i 0) 2)
@@ -57,10 +57,10 @@ module _ (own : Map Value) (room : ℕ) (g : Graph) (kinds words actions details
   abbrev shape : Map PlanAction
   shape = shapeOf (g .wires) actions details
 
-  plan-same : (n : ℕ) (ws : List Wire) → rewriteWires (worklist own g .state .plan) n ws ≡ rewriteWires shape n ws
+  pub plan-same : (n : ℕ) (ws : List Wire) → rewriteWires (worklist own g .state .plan) n ws ≡ rewriteWires shape n ws
   plan-same n ws = ap (λ (p : Map PlanAction). rewriteWires p n ws) (h .plan) ∙ wires-same _ _ (shape-alike (g .wires) (worklist own g .state .known) actions details (h .literal)) n ws
 
-  index-of : (n : ℕ) (ws : List Wire) → endlessIndex (worklist own g .state .plan) n ws ≡ endlessIndex shape n ws
+  pub index-of : (n : ℕ) (ws : List Wire) → endlessIndex (worklist own g .state .plan) n ws ≡ endlessIndex shape n ws
   index-of n ws = ap (λ (p : Map PlanAction). endlessIndex p n ws) (h .plan) ∙ index-same _ _ (shape-alike (g .wires) (worklist own g .state .known) actions details (h .literal)) n ws
 
   answer-same : (ws : List Wire) → answer (size g) (worklist own g .state) ws ≡ bytesIn (size g) kinds words actions ws
@@ -76,29 +76,29 @@ module _ (own : Map Value) (room : ℕ) (g : Graph) (kinds words actions details
       ∙ ap (λ (m : Map Value). fateBy i (getD actions i 0) (m i)) (h .known)))
 
   abbrev rest : Option (List Wire) → Result
-  rest o = answered g (worklist own g) room (ending g (worklist own g .state .plan) o)
+  rest o = answered foldBytes g (worklist own g) room (ending g (worklist own g .state .plan) o)
 
-  at-wires : (o : Option (List Wire)) → rewriteWires shape (size g) (g .wires) ≡ o → foldGraph own g room ≡ rest o
+  at-wires : (o : Option (List Wire)) → rewriteWires shape (size g) (g .wires) ≡ o → foldGraph foldBytes own g room ≡ rest o
   unfolding foldGraph rewritten
   at-wires o e = ap rest (plan-same (size g) (g .wires) ∙ e)
 
-  pub fold-endless : rewriteWires shape (size g) (g .wires) ≡ none → foldGraph own g room ≡ refuses 9 (wireOffset g (endlessIndex shape (size g) (g .wires)))
+  pub fold-endless : rewriteWires shape (size g) (g .wires) ≡ none → foldGraph foldBytes own g room ≡ refuses 9 (wireOffset g (endlessIndex shape (size g) (g .wires)))
   unfolding ending answered
   fold-endless e = at-wires none e ∙ ap (λ (i : ℕ). refuses 9 (wireOffset g i)) (index-of (size g) (g .wires))
 
   module _ (ws : List Wire) (e : rewriteWires shape (size g) (g .wires) ≡ some ws) where
-    pub fold-many : maxWires < length ws → foldGraph own g room ≡ refuses 10 0
+    pub fold-many : maxWires < length ws → foldGraph foldBytes own g room ≡ refuses 10 0
     unfolding ending answered counted
     fold-many l = at-wires (some ws) e ∙ rw (lt-leb (length ws) maxWires l) refl
 
-    fits : length ws ≤ maxWires → foldGraph own g room ≡ measured room (answer (size g) (worklist own g .state) ws) (worklist own g .pops)
+    fits : length ws ≤ maxWires → foldGraph foldBytes own g room ≡ measured room (answer (size g) (worklist own g .state) ws) (worklist own g .pops)
     unfolding ending answered counted
     fits l = at-wires (some ws) e ∙ rw (le-leb (length ws) maxWires l) refl
 
-    pub fold-long : length ws ≤ maxWires → room < length (bytesIn (size g) kinds words actions ws) → foldGraph own g room ≡ refuses 10 0
+    pub fold-long : length ws ≤ maxWires → room < length (bytesIn (size g) kinds words actions ws) → foldGraph foldBytes own g room ≡ refuses 10 0
     unfolding measured
     fold-long l b = fits l ∙ rw (answer-same ws) (rw (lt-leb _ room b) refl)
 
-    pub fold-folds : length ws ≤ maxWires → length (bytesIn (size g) kinds words actions ws) ≤ room → foldGraph own g room ≡ folds (bytesIn (size g) kinds words actions ws) (worklist own g .pops)
+    pub fold-folds : length ws ≤ maxWires → length (bytesIn (size g) kinds words actions ws) ≤ room → foldGraph foldBytes own g room ≡ folds (bytesIn (size g) kinds words actions ws) (worklist own g .pops)
     unfolding measured
     fold-folds l b = fits l ∙ rw (answer-same ws) (rw (le-leb _ room b) refl)

@@ -20,10 +20,11 @@ use Rattle.records.proofs.Laid.{counted, bounded}
 use Rattle.model.specs.Maps.{Map, isSome}
 use Rattle.model.specs.Inputs.{size}
 use Rattle.model.specs.Offer.{PlanAction, literals}
+use Rattle.model.specs.Trial.{State}
 use Rattle.model.specs.Answer.{each}
 use Rattle.model.specs.Rewrite.{rewriteWire, rewriteWires}
 use Rattle.model.specs.TargetCounts.{cap}
-use Rattle.model.specs.Outcome.{endlessIndex, wireOffset, Result, folds, refuses, written, foldGraph, byVerdict, outcome}
+use Rattle.model.specs.Outcome.{endlessIndex, wireOffset, Result, folds, refuses, written, foldGraph, foldBytes, byVerdict, outcomeBy, outcome}
 use Rattle.model.specs.Worklist.{worklist}
 use Rattle.model.specs.Own.{setNothing, ownOf}
 use Rattle.model.proofs.Own.{own-zeros}
@@ -46,19 +47,19 @@ pub refuse : {fold : List ℕ → ℕ → Result} {input before : List ℕ} {n p
 unfolding written
 refuse e = record { result = rw e refl; buffer = rw e refl }
 
-at-accepted : (input : List ℕ) (room : ℕ) {g : Graph} → decode input ≡ accepted g → outcome input room ≡ foldGraph (literals g) g room
-unfolding outcome byVerdict
+at-accepted : (input : List ℕ) (room : ℕ) {g : Graph} → decode input ≡ accepted g → outcome input room ≡ foldGraph foldBytes (literals g) g room
+unfolding outcomeBy byVerdict
 at-accepted input room e = rw (e, byVerdict)
 
--- questions 1 to 8
-pub refuse-decode : {input before : List ℕ} {n p : ℕ} → decode input ≡ refused n p → Answers outcome input before before (Outcome.Refused n p)
-refuse-decode {input} {before} {n} {p} e = refuse (at-refusal input (length before) n p e)
+-- questions 1 to 8 and 12
+pub refuse-decode : (bytes : Graph → State → List Wire → List ℕ) {input before : List ℕ} {n p : ℕ} → decode input ≡ refused n p → Answers (outcomeBy bytes) input before before (Outcome.Refused n p)
+refuse-decode bytes {input} {before} {n} {p} e = refuse (at-refusal bytes input (length before) n p e)
 
 -- with nothing set, a fold of the graph is the input's outcome
 pub plain : {input : List ℕ} {c : Counts} {kinds words actions details : List ℕ} {pops : ℕ} {before after : List ℕ} {r : Outcome} → Settled input (ownOf (graphOf input) (replicate maxNodes setNothing)) c kinds words actions details pops → Folds input c kinds words actions details pops before after r → Answers outcome input before after r
 plain {input} {c} {before = before} {after = after} {r = r} S f =
     let g = graphOf input in
-    let e : foldGraph (ownOf g (replicate maxNodes setNothing)) g (length before) ≡ outcome input (length before) = ap (λ (own : Map Value). foldGraph own g (length before)) (own-zeros g maxNodes) ∙ sym (at-accepted input (length before) (accepted-graph input c (S .accepts))) in
+    let e : foldGraph foldBytes (ownOf g (replicate maxNodes setNothing)) g (length before) ≡ outcome input (length before) = ap (λ (own : Map Value). foldGraph foldBytes own g (length before)) (own-zeros g maxNodes) ∙ sym (at-accepted input (length before) (accepted-graph input c (S .accepts))) in
     let a = f .law _ S in
     record { result = rw e at (a .result); buffer = rw e at (a .buffer) }
 
@@ -68,7 +69,7 @@ nodes-room kinds words actions n more w h =
     let e = length-append (knownRecords kinds words n) (fateRecords kinds words actions n) in
     omega (arith, h, w .past, e, written-length w (omega (arith, h, e)))
 
-splice-start : (l bs : List ℕ) → splice l 0 bs ≡ bs ++ drop (length bs) l
+pub splice-start : (l bs : List ℕ) → splice l 0 bs ≡ bs ++ drop (length bs) l
 unfolding splice
 splice-start l bs = let e : 0 + length bs ≡ length bs = omega arith in ap (λ (k : ℕ). bs ++ drop k l) e
 
@@ -130,7 +131,7 @@ module _ {own : Map Value} {input : List ℕ} {c : Counts} {kinds words actions 
         let T : List ℕ = each wireBytes ws in
         let z' : Written T two three b r = rw ws-is at z in
         let w = written-more y (omega (arith, m, whole)) z' in
-        let e : foldGraph own (graphOf input) (length before) ≡ folds (bytesIn (size h) kinds words actions ws) (worklist own h .pops) = fold-folds own (length before) h kinds words actions details (W .finished .holds) ws (C .ends) (omega (arith, exact)) (omega (arith, m, whole)) in
+        let e : foldGraph foldBytes own (graphOf input) (length before) ≡ folds (bytesIn (size h) kinds words actions ws) (worklist own h .pops) = fold-folds own (length before) h kinds words actions details (W .finished .holds) ws (C .ends) (omega (arith, exact)) (omega (arith, m, whole)) in
         record {
           result = rw e (ap₂ Outcome.Folded (w .past ∙ omega arith) (W .finished .pops-are));
           buffer = rw e (w .wrote ∙ splice-start before (bytesIn (size h) kinds words actions ws));

@@ -1,4 +1,4 @@
--- The demands on the entry, each of the input, the buffer afterwards and the four numbers that are returned.
+-- The demands on an entry, each of the input, the buffer afterwards and the four numbers that are returned. `bytes` is what the entry writes for a graph.
 use Prim.Native.Nat.{ℕ, _+_, _<_, _≤_}
 use mathlib.Core.Path.{_≡_}
 use mathlib.Core.Bool.{true}
@@ -19,16 +19,18 @@ use Rattle.records.specs.Access.{noWire}
 use Rattle.model.specs.Maps.{All}
 use Rattle.model.specs.Inputs.{size, nodeOf}
 use Rattle.model.specs.Offer.{BecomeLiteral, literals}
-use Rattle.model.specs.Trial.{empty, trials, Stable}
+use Rattle.model.specs.Trial.{State, empty, trials, Stable}
 use Rattle.model.specs.Rewrite.{rewriteWires}
-use Rattle.model.specs.Answer.{answer}
-use Rattle.model.specs.Outcome.{wireOffset, Numbers}
-use Rattle.model.specs.Demands.{foldOf, planOf, Refused, FirstEndless, Clean}
+use Rattle.model.specs.Outcome.{wireOffset, foldBytes, Numbers}
+use Rattle.model.specs.Demands.{foldOf, planOf, RefusedBy, FirstEndless, Clean}
 
 -- demand 1: refused with a number and a place exactly where document 01 has that number and place for the input, and with 1 to 10 or 12 alone
-pub record Refusals (input : List ℕ) (room : ℕ) (r : Numbers) : Type 0 where
-  pub exactly : (n p : ℕ) → 1 ≤ n → ((r .number ≡ n) × (r .place ≡ p)) ↔ Refused input room n p
+pub record RefusalsBy (bytes : Graph → State → List Wire → List ℕ) (input : List ℕ) (room : ℕ) (r : Numbers) : Type 0 where
+  pub exactly : (n p : ℕ) → 1 ≤ n → ((r .number ≡ n) × (r .place ≡ p)) ↔ RefusedBy bytes input room n p
   pub given : (r .number ≤ 10) ⊎ (r .number ≡ 12)
+
+abbrev pub Refusals : List ℕ → ℕ → Numbers → Type 0
+Refusals input room r = RefusalsBy foldBytes input room r
 
 -- "place the offset of the first such wire record": the record there is that wire's
 pub record EndlessAt (input : List ℕ) (place : ℕ) : Type 0 where
@@ -47,10 +49,13 @@ abbrev pub OrderFree : Graph → Type 0
 OrderFree g = (ns : List ℕ) → (trials (literals g) g empty ns ≡ foldOf g .state) ↔ Stable (literals g) g (trials (literals g) g empty ns)
 
 -- "Our answer is, byte for byte, what document 01 writes for that graph and the worklist's known values and plan"
-pub record AnswerOf (g : Graph) (bytes : List ℕ) : Type 0 where
+pub record AnswerBy (bytes : Graph → State → List Wire → List ℕ) (g : Graph) (written : List ℕ) : Type 0 where
   pub wires : List Wire
   pub rewritten : rewriteWires (planOf g) (size g) (g .wires) ≡ some wires
-  pub is : bytes ≡ answer (size g) (foldOf g .state) wires
+  pub is : written ≡ bytes g (foldOf g .state) wires
+
+abbrev pub AnswerOf : Graph → List ℕ → Type 0
+AnswerOf g written = AnswerBy foldBytes g written
 
 -- "its pops are those of the waiting-line rule", "until none waits", "and at most nodes plus wires"
 pub record PopsOf (g : Graph) (pops : ℕ) : Type 0 where

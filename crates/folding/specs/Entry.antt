@@ -8,7 +8,7 @@ use Rattle.graph.specs.Decode.{graphOf}
 use Rattle.graph.specs.declared.Counts.{Counts}
 use Rattle.model.specs.Inputs.{size}
 use Rattle.model.specs.Maps.{Map}
-use Rattle.model.specs.Outcome.{Result, folds, refuses, Numbers, written, foldGraph}
+use Rattle.model.specs.Outcome.{Result, folds, refuses, Numbers, written, foldGraph, foldBytes}
 use Rattle.state.specs.Planned.{shapeOf}
 use Rattle.propagation.specs.Propagation.{Settled}
 use Rattle.answer.specs.Nodes.{knownRecords, fateRecords}
@@ -34,7 +34,7 @@ pub record Answers (fold : List ℕ → ℕ → Result) (input before after : Li
 
 -- the fold of an accepted input, where `own` says what nodes are by themselves
 abbrev pub foldBy : Map Value → List ℕ → ℕ → Result
-foldBy own input room = foldGraph own (graphOf input) room
+foldBy own input room = foldGraph foldBytes own (graphOf input) room
 
 -- ---- between the stages
 

@@ -46,7 +46,7 @@ fn folded(length: usize, pops: usize) -> Outcome
 }
 
 // Whether a buffer of so much room holds the records of the nodes and `count` wires.
-fn holds(
+pub fn holds(
     kinds: &[u8; limit::NODES],
     actions: &[u8; limit::NODES],
     nodes: usize,

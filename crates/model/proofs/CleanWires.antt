@@ -16,11 +16,11 @@ use Rattle.model.proofs.Maps.{none-some}
 use Rattle.model.proofs.Lists.{all-append, all-map}
 
 -- what an option gives has P
-abbrev Gives : {A : Type 0} → (A → Type 0) → Option (List A) → Type 0
+abbrev pub Gives : {A : Type 0} → (A → Type 0) → Option (List A) → Type 0
 Gives P none = Unit {0}
 Gives P (some xs) = All P xs
 
-both-gives : {A : Type 0} (P : A → Type 0) (o q : Option (List A)) → Gives P o → Gives P q → Gives P (both o q)
+pub both-gives : {A : Type 0} (P : A → Type 0) (o q : Option (List A)) → Gives P o → Gives P q → Gives P (both o q)
 unfolding both
 both-gives P none q h k = tt
 both-gives P (some xs) none h k = tt

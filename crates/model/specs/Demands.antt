@@ -15,8 +15,8 @@ use Rattle.model.specs.Inputs.{size}
 use Rattle.model.specs.Offer.{PlanAction, BecomeLiteral, ShortCircuit, Truncate, literals}
 use Rattle.model.specs.Worklist.{Work, worklist}
 use Rattle.model.specs.Rewrite.{rewriteWires, Endless}
-use Rattle.model.specs.Answer.{answer}
-use Rattle.model.specs.Outcome.{wireOffset}
+use Rattle.model.specs.Trial.{State}
+use Rattle.model.specs.Outcome.{wireOffset, foldBytes}
 
 -- the worklist of a graph whose Literals are what they are by themselves
 abbrev pub foldOf : Graph → Work
@@ -33,15 +33,18 @@ pub record FirstEndless (p : Map PlanAction) (ws : List Wire) (i : ℕ) : Type 0
   pub endless : Endless p (getD ws i noWire)
   pub first : (j : ℕ) → j < i → Endless p (getD ws j noWire) → ⊥
 
--- the number and the place with which an input is refused, where the buffer has `room` bytes
-pub data Refused (input : List ℕ) (room : ℕ) : ℕ → ℕ → Type 0 where
+-- the number and the place with which an entry that writes these bytes refuses an input, where the buffer has `room` bytes
+pub data RefusedBy (bytes : Graph → State → List Wire → List ℕ) (input : List ℕ) (room : ℕ) : ℕ → ℕ → Type 0 where
   -- 1 to 8 and 12: the first question that is answered with no
-  decoding : {n p : ℕ} → decode input ≡ refused n p → Refused input room n p
+  decoding : {n p : ℕ} → decode input ≡ refused n p → RefusedBy bytes input room n p
   -- 9: a wire's rewriting does not end
-  rewriting : {g : Graph} {i : ℕ} → decode input ≡ accepted g → FirstEndless (planOf g) (g .wires) i → Refused input room 9 (wireOffset g i)
-  -- 10: every wire's does, and there are too many rewritten wires, or the answer is too long
+  rewriting : {g : Graph} {i : ℕ} → decode input ≡ accepted g → FirstEndless (planOf g) (g .wires) i → RefusedBy bytes input room 9 (wireOffset g i)
+  -- 10: every wire's does, and there are too many rewritten wires, or what is written is too long
   writing : {g : Graph} {ws : List Wire} → decode input ≡ accepted g → rewriteWires (planOf g) (size g) (g .wires) ≡ some ws →
-      (maxWires < length ws) ⊎ (room < length (answer (size g) (foldOf g .state) ws)) → Refused input room 10 0
+      (maxWires < length ws) ⊎ (room < length (bytes g (foldOf g .state) ws)) → RefusedBy bytes input room 10 0
+
+abbrev pub Refused : List ℕ → ℕ → ℕ → ℕ → Type 0
+Refused input room n p = RefusedBy foldBytes input room n p
 
 -- ---- rewritten wires
 

@@ -14,6 +14,7 @@ use Rattle.graph.specs.Decode.{Verdict, accepted, refused, decode}
 use Rattle.model.specs.Maps.{Map, isSome}
 use Rattle.model.specs.Inputs.{size}
 use Rattle.model.specs.Offer.{PlanAction, literals}
+use Rattle.model.specs.Trial.{State}
 use Rattle.model.specs.Worklist.{Work, worklist}
 use Rattle.model.specs.Rewrite.{rewriteWire, rewriteWires}
 use Rattle.model.specs.Answer.{answer}
@@ -56,21 +57,30 @@ pub data Result : Type 0 where
 unfoldable pub measured : ℕ → List ℕ → ℕ → Result
 measured room a pops = cond (leb (length a) room) (folds a pops) (refuses 10 0)
 
-unfoldable pub answered : Graph → Work → ℕ → Rewriting → Result
-answered g w room (stops n p) = refuses n p
-answered g w room (wires ws) = measured room (answer (size g) (w .state) ws) (w .pops)
+-- of an entry that writes these bytes for a graph, what is known and planned of it, and its rewritten wires
+module _ (bytes : Graph → State → List Wire → List ℕ) where
+  unfoldable pub answered : Graph → Work → ℕ → Rewriting → Result
+  answered g w room (stops n p) = refuses n p
+  answered g w room (wires ws) = measured room (bytes g (w .state) ws) (w .pops)
 
--- questions 9 and 10 of a graph
-unfoldable pub foldGraph : Map Value → Graph → ℕ → Result
-foldGraph own g room = answered g (worklist own g) room (rewritten g (worklist own g .state .plan))
+  -- questions 9 and 10 of a graph
+  unfoldable pub foldGraph : Map Value → Graph → ℕ → Result
+  foldGraph own g room = answered g (worklist own g) room (rewritten g (worklist own g .state .plan))
 
-unfoldable pub byVerdict : ℕ → Verdict → Result
-byVerdict room (refused n p) = refuses n p
-byVerdict room (accepted g) = foldGraph (literals g) g room
+  unfoldable pub byVerdict : ℕ → Verdict → Result
+  byVerdict room (refused n p) = refuses n p
+  byVerdict room (accepted g) = foldGraph (literals g) g room
 
--- an input, into a buffer of so many bytes
-unfoldable pub outcome : List ℕ → ℕ → Result
-outcome input room = byVerdict room (decode input)
+  -- an input, into a buffer of so many bytes
+  unfoldable pub outcomeBy : List ℕ → ℕ → Result
+  outcomeBy input room = byVerdict room (decode input)
+
+-- the fold writes the answer
+abbrev pub foldBytes : Graph → State → List Wire → List ℕ
+foldBytes g s ws = answer (size g) s ws
+
+abbrev pub outcome : List ℕ → ℕ → Result
+outcome input room = outcomeBy foldBytes input room
 
 -- ---- what is returned and written
 

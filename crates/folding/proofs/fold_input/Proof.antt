@@ -2,6 +2,7 @@
 use mathlib.Core.Path.{sym, ap, ap₂, _∙_}
 use borrow.Author.Needs.{needs}
 use Rattle.graph.specs.Refusals.{reportOf, refusal}
+use Rattle.model.specs.Outcome.{foldBytes}
 use Rattle.propagation.proofs.Accepted.{refused-is}
 use Rattle.folding.proofs.Stages.{refuse-decode}
 use Rattle.folding.proofs.fold_input.Statement.{statement}
@@ -32,7 +33,7 @@ returns : tie.Need-returns
 returns c = c .before .before .fold-graph .ensures
 
 returns-2 : tie.Need-returns-2
-returns-2 c = refuse-decode (refused-is _ (ap₂ refusal (c .before .number-of .ensures) (c .place-of .ensures) ∙ (sym (ap reportOf (c .before .before .before .refusal .given .1)) ∙ c .before .before .before .before .before .decode .ensures .0)))
+returns-2 c = refuse-decode foldBytes (refused-is _ (ap₂ refusal (c .before .number-of .ensures) (c .place-of .ensures) ∙ (sym (ap reportOf (c .before .before .before .refusal .given .1)) ∙ c .before .before .before .before .before .decode .ensures .0)))
 
 pub fold-input-spec : {M : Type 1} → statement M
 fold-input-spec =
