@@ -83,8 +83,10 @@ for kind in (0, 13, 16, 255):
 # 4: what is not listed
 refuse(node(43), 4, 0)
 accept(node(42), 1)
-refuse(node(0, 2), 4, 0)
-accept(node(0, 1), 1)
+for flags in (*range(8), 8, 11, 16, 32, 64, 128, 255):
+    for kind in (0, 1, 4, 42):
+        two = node(kind, flags % 4) + node(kind, flags)
+        (accept(two, 2) if flags < 4 else refuse(two, 4, 3))
 refuse(node() + wire(0, 10, 0, 2), 4, 3)
 refuse(node() + wire(0, 0, 0, 10), 4, 3)
 accept(node() + wire(0, 9, 0, 9), 1, 1)
@@ -164,7 +166,8 @@ assert len(full) == 65536
 accept(full, 1024, 4096, 900, 278, 1)
 refuse(full + b"\0", 1, 0)
 
-out = sys.stdout.buffer
-for data, *numbers in cases:
-    out.write(struct.pack("<8Q", len(data), *numbers) + data)
+stored = b"".join(struct.pack("<8Q", len(data), *numbers) + data for data, *numbers in cases)
+# what crates/decode_cases reads at most
+assert len(stored) <= 327680
+sys.stdout.buffer.write(stored)
 print(f"{len(cases)} cases", file=sys.stderr)

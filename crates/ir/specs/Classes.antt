@@ -39,6 +39,14 @@ isOrder class = leb 8 class && leb class 11
 abbrev pub foldingOf : ℕ → Folding
 foldingOf class = getD classes class Never
 
+-- "1 Literal"
+abbrev pub literal : ℕ
+literal = 1
+
+-- the gates that give a value, from Equal to MathSqrt: "classes 6 to 42"
+abbrev pub isGate : ℕ → Bool
+isGate class = leb 6 class && isClass class
+
 -- "2 MicrochipInput"
 abbrev pub microchipInput : ℕ
 microchipInput = 2

@@ -2,7 +2,7 @@
 use crate::Folding;
 use crate::wide;
 ghost use mathlib.Core.Path.{_≡_};
-ghost use Rattle.ir.specs.Classes.{foldingOf, inputCount, hasRows, isClass, isOrder, isAnnihilator};
+ghost use Rattle.ir.specs.Classes.{foldingOf, inputCount, hasRows, isClass, isGate, isOrder, isAnnihilator};
 ghost use Prim.Native.Nat.{_<_};
 
 pub const COUNT: usize = 43;
@@ -95,6 +95,13 @@ pub fn is_class(class: u8) -> bool
     ensures { λ r. ⌜ r ≡ isClass class ⌝ }
 {
     wide(class) < COUNT
+}
+
+// Whether the class is a gate that gives a value.
+pub fn is_gate(class: u8) -> bool
+    ensures { λ r. ⌜ r ≡ isGate class ⌝ }
+{
+    (COMPARE_EQUAL <= class) & is_class(class)
 }
 
 // Whether the class is an order gate.

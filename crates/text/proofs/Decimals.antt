@@ -29,9 +29,6 @@ reads (suc n) m h = pick (reads n (m / 10)) (eqb m 0) refl
         let some : m ≡ 0 → ⊥ = eqb-false m 0 e in
         one-more 0 (lastDigits n (m / 10)) (48 + m % 10) ∙ omega (arith, f (omega (arith, some)))
 
-pub digits-read : (m : ℕ) → readAfter 0 (digits m) ≡ m
-digits-read m = reads m m (omega arith)
-
 starts-of : (xs : List ℕ) (d : ℕ) → StartsAboveZero xs → (xs ≡ [] → 48 < d) → StartsAboveZero (xs ++ (d ∷ []))
 starts-of [] d h f = f refl
 starts-of (x ∷ xs) d h f = h

@@ -1,0 +1,4 @@
+pub mod Named
+pub mod Back
+pub mod Stages
+pub mod Entries

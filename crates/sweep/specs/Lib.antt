@@ -1,0 +1,4 @@
+pub mod Removals
+pub mod Queue
+pub mod Eligible
+pub mod Swept
