@@ -2,7 +2,7 @@
 
 # The crates of the entries, each with its functions for other languages. The library has each as a member of its own, so
 # that a program gets the code of those that it calls, and none changes how another is compiled.
-ENTRIES = folding root
+ENTRIES = folding swept root
 
 LIBRARIES = target/staticlib
 

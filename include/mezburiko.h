@@ -27,7 +27,7 @@ extern "C" {
  */
 #define MEZBURIKO_MAX_ANSWER 84976
 
-/* What mezburiko_fold returns: 0, or the number of a refusal. The place is an offset into the input, in bytes. */
+/* What the folds return: 0, or the number of a refusal. The place is an offset into the input, in bytes. */
 enum mezburiko_number {
     MEZBURIKO_ACCEPTED = 0,
     MEZBURIKO_INPUT_TOO_LONG = 1, /* more than 65,536 bytes; place 0 */
@@ -46,7 +46,8 @@ enum mezburiko_number {
 };
 
 /*
- * Folds the graph in input[0 .. input_length) and writes the answer to the front of out[0 .. out_length).
+ * Folds the graph in input[0 .. input_length) and writes the answer to the front of out[0 .. out_length). Every node has
+ * its fate in the answer, those that feed nothing too: mezburiko_fold_swept takes these.
  *
  * Returns 0 where the graph is accepted: *length is the answer's length, *pops how many nodes were taken from the
  * waiting line, *place is 0, and the bytes of out past the answer are as they were. Returns the number of a refusal
@@ -64,6 +65,21 @@ enum mezburiko_number {
  */
 uint8_t mezburiko_fold(const uint8_t *input, size_t input_length, uint8_t *out, size_t out_length, size_t *place,
                        size_t *length, size_t *pops);
+
+/*
+ * Folds as mezburiko_fold does, and then takes the nodes that feed nothing.
+ *
+ * A Literal or a gate (classes 1 and 6 to 42, made a literal or not, known or not) whose flags are 0 and which no
+ * rewritten wire leaves is taken, its incoming wires with it, and so on until none is left. A loop stays, as each of its
+ * nodes feeds another or itself; so does a node with flag bit 0 (nofold) or bit 1, which marks one that a label names, and
+ * what feeds it. A taken node has the fate 11 (removed); known values and pops are those of mezburiko_fold.
+ *
+ * Numbers, places, what is written and what the caller owes are as for mezburiko_fold, and MEZBURIKO_MAX_ANSWER holds
+ * every answer here too. MEZBURIKO_NO_SPACE counts the rewritten wires before any node is taken, and measures the answer
+ * after it. The call takes about 145 KB of stack at its peak and no heap.
+ */
+uint8_t mezburiko_fold_swept(const uint8_t *input, size_t input_length, uint8_t *out, size_t out_length, size_t *place,
+                             size_t *length, size_t *pops);
 
 /*
  * The whole root of n and what is over: returns the root, and writes the remainder to *remainder.

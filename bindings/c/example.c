@@ -1,6 +1,6 @@
 /*
- * Folds document 01's worked example, a graph with a text, the empty graph and two graphs that are refused, takes two
- * whole roots, and prints what comes of each.
+ * Folds document 01's worked example, a graph with a text, one with parts that feed nothing, the empty graph and two
+ * graphs that are refused, takes two whole roots, and prints what comes of each.
  */
 #include <inttypes.h>
 #include <stdio.h>
@@ -27,6 +27,16 @@ static const uint8_t CLOTH[] = {
     0x0A, 0x06, 8, 8, 0,          /* row: Equal of two texts */
     0x0C, 0, 0, 0x0A, 5, 'd', 'e', 'n', 'i', 'm', 0, 0, 0, 0, 0, 0, 0, 0, 0, 0, 0, /* Value of 0: "denim" */
     0x0C, 1, 0, 0x03, 5, 'd', 'e', 'n', 'i', 'm', 0, 0, 0, 0, 0, 0, 0, 0, 0, 0, 0, /* InputB of 1: "denim" */
+};
+
+/* Literals 7 and 9 and a Negate of the first, which nothing reads; a label names the second Literal. */
+static const uint8_t SPARE[] = {
+    0x01, 0x01, 0x00,                         /* node 0: Literal */
+    0x01, 0x01, 0x02,                         /* node 1: Literal, named by a label */
+    0x01, 0x19, 0x00,                         /* node 2: Negate */
+    0x02, 0, 0, 0x00, 2, 0, 0x02,             /* wire from 0 to InputA of 2 */
+    0x03, 0, 0, 0x0A, 7, 0, 0, 0, 0, 0, 0, 0, /* Value of 0: Int 7 */
+    0x03, 1, 0, 0x0A, 9, 0, 0, 0, 0, 0, 0, 0, /* Value of 1: Int 9 */
 };
 
 /* A row that would order texts. */
@@ -85,9 +95,13 @@ static void print_records(const uint8_t *records, size_t length) {
     }
 }
 
-static void fold(const char *name, const uint8_t *input, size_t input_length, uint8_t *out, size_t out_length) {
+/* mezburiko_fold or mezburiko_fold_swept. */
+typedef uint8_t fold_function(const uint8_t *, size_t, uint8_t *, size_t, size_t *, size_t *, size_t *);
+
+static void fold(fold_function *function, const char *name, const uint8_t *input, size_t input_length, uint8_t *out,
+                 size_t out_length) {
     size_t place, length, pops;
-    uint8_t number = mezburiko_fold(input, input_length, out, out_length, &place, &length, &pops);
+    uint8_t number = function(input, input_length, out, out_length, &place, &length, &pops);
     if (number == MEZBURIKO_ACCEPTED) {
         printf("%s: accepted, %zu bytes, %zu pops\n", name, length, pops);
         print_records(out, length);
@@ -103,12 +117,15 @@ static void whole_root(const char *name, uint64_t n) {
 }
 
 int main(void) {
-    fold("worked example", WORKED, sizeof WORKED, answer, sizeof answer);
-    fold("worked example, a byte too little", WORKED, sizeof WORKED, answer, 47);
-    fold("cloth's name", CLOTH, sizeof CLOTH, answer, sizeof answer);
-    fold("empty graph", NULL, 0, NULL, 0);
-    fold("circle", CIRCLE, sizeof CIRCLE, answer, sizeof answer);
-    fold("order of texts", ORDER, sizeof ORDER, answer, sizeof answer);
+    fold(mezburiko_fold, "worked example", WORKED, sizeof WORKED, answer, sizeof answer);
+    fold(mezburiko_fold, "worked example, a byte too little", WORKED, sizeof WORKED, answer, 47);
+    fold(mezburiko_fold, "cloth's name", CLOTH, sizeof CLOTH, answer, sizeof answer);
+    fold(mezburiko_fold, "spare parts", SPARE, sizeof SPARE, answer, sizeof answer);
+    fold(mezburiko_fold_swept, "spare parts, swept", SPARE, sizeof SPARE, answer, sizeof answer);
+    fold(mezburiko_fold_swept, "spare parts, swept, a byte too little", SPARE, sizeof SPARE, answer, 32);
+    fold(mezburiko_fold, "empty graph", NULL, 0, NULL, 0);
+    fold(mezburiko_fold, "circle", CIRCLE, sizeof CIRCLE, answer, sizeof answer);
+    fold(mezburiko_fold, "order of texts", ORDER, sizeof ORDER, answer, sizeof answer);
     whole_root("3000 steps by 4001", UINT64_C(3000) * 3000 + UINT64_C(4001) * 4001);
     whole_root("the largest number", UINT64_MAX);
     return 0;

@@ -27,6 +27,8 @@ text { font: 10px "DejaVu Sans Mono", Menlo, Consolas, monospace; fill: #222; }
 .literal .inner { stroke: #0b7a3b; stroke-width: 1; }
 .removed .box { fill: #f3f3f3; stroke: #a33; stroke-dasharray: 6 4; }
 .removed text { fill: #8a5a5a; }
+.taken .box { fill: #f3f3f3; stroke: #777; stroke-dasharray: 2 3; }
+.taken text { fill: #777; }
 .wire { fill: none; stroke: #555; stroke-width: 1.3; stroke-linejoin: round; marker-end: url(#arrow); }
 .wire.dropped { stroke: #c06060; stroke-dasharray: 2 4; }
 .wire.moved { stroke: #8a6d1a; stroke-dasharray: 9 3 2 3; }
@@ -37,7 +39,7 @@ text { font: 10px "DejaVu Sans Mono", Menlo, Consolas, monospace; fill: #222; }
 ARROW = ('<marker id="arrow" viewBox="0 0 8 8" refX="8" refY="4" markerWidth="8" markerHeight="8" '
          'markerUnits="userSpaceOnUse" orient="auto"><path d="M0 0.8L8 4L0 7.2z" fill="#555"/></marker>')
 
-BOX_LEGEND = {'kept': 'kept', 'literal': 'made a literal', 'removed': 'removed'}
+BOX_LEGEND = {'kept': 'kept', 'literal': 'made a literal', 'removed': 'removed', 'taken': 'feeds nothing: taken'}
 WIRE_LEGEND = {'same': 'wire as it was', 'dropped': 'wire dropped', 'moved': 'wire led elsewhere', 'new': 'wire that is new'}
 
 
@@ -85,7 +87,7 @@ def cards_of(graph, wires, folded, after):
         values.setdefault(item.node, {})[item.port] = item.value
     cards = []
     for node in range(len(graph.nodes)):
-        if not (after and node in folded.taken):
+        if not after or folded.remains(node):
             made = after and folded.is_literal(node)
             inputs = {} if made else values.get(node, {})
             left = {port: _input_label(port, inputs.get(port)) for port in sorted(into.get(node, set()) | set(inputs))}
@@ -99,29 +101,39 @@ def _input_label(port, value):
 
 
 def _card(graph, node, folded, left, right):
-    flag = ' nofold' if graph.nodes[node].nofold else ''
-    subtitle = '%d %s%s' % (node, graph.nodes[node].node_class.name, flag)
+    subtitle = '%d %s%s' % (node, graph.nodes[node].node_class.name, graph.nodes[node].flag_words)
     style, value, tip = 'kept', '', graph.names[node]
     if folded is not None:
         tip = '%s: %s' % (graph.names[node], node_fate(folded, node))
-        style = 'removed' if node in folded.taken else 'literal' if folded.is_literal(node) else 'kept'
+        style = _style(folded, node)
         known = folded.answer.known.get(node)
         value = '' if known is None else '= ' + shown(format_value(known))
     return Card(node, style, shown(graph.names[node]), subtitle, value, left, right, tip)
 
 
+def _style(folded, node):
+    if not folded.remains(node):
+        return 'taken' if node in folded.swept else 'removed'
+    return 'literal' if folded.is_literal(node) else 'kept'
+
+
 def draw(graph, name, answer=None, fault=None):
     """The picture; `fault` is the number of a wire to point out. Raises NotAnAnswer where the answer is not the graph's."""
+    boxes, wires = {'kept': 'node: number, class, values and ports'}, {'same': 'wire'}
     if answer is None:
         styles = [('fault' if number == fault else 'same', graph.wire_text(wire)) for number, wire in enumerate(graph.wires)]
         panels = [_panel(name, cards_of(graph, graph.wires, None, False), graph.wires, styles)]
     else:
         folded = Folded(graph, answer)
+        boxes = {style: words for style, words in BOX_LEGEND.items() if style != 'taken' or folded.swept}
+        wires = WIRE_LEGEND
         panels = [_panel('%s, before folding' % name, cards_of(graph, graph.wires, folded, False), graph.wires,
                          _styles_before(folded)),
                   _panel('%s, after folding' % name, cards_of(graph, answer.wires, folded, True), answer.wires,
                          _styles_after(folded))]
-    return _document(name, [_legend(answer is not None, fault is not None)] + panels)
+    if fault is not None:
+        wires = {**wires, 'fault': 'wire that is refused'}
+    return _document(name, [_legend(boxes, wires)] + panels)
 
 
 def _document(name, parts):
@@ -186,7 +198,7 @@ def _card_lines(card, box):
 
 
 def _box_lines(style, box):
-    """Kept nodes have corners, literals are round with a double line, removed nodes are dashed."""
+    """Kept nodes have corners, literals are round with a double line, removed nodes are dashed, taken ones dotted."""
     corner = min(14, box.height / 2) if style == 'literal' else 3
     rect = '<rect class="%s" x="%.1f" y="%.1f" width="%.1f" height="%.1f" rx="%d"/>'
     lines = [rect % ('box', box.x, box.y, box.width, box.height, corner)]
@@ -195,12 +207,8 @@ def _box_lines(style, box):
     return lines
 
 
-def _legend(with_answer, with_fault):
-    """Lines, width and height of the samples of each style that the picture uses."""
-    boxes = BOX_LEGEND if with_answer else {'kept': 'node: number, class, values and ports'}
-    wires = dict(WIRE_LEGEND) if with_answer else {'same': 'wire'}
-    if with_fault:
-        wires['fault'] = 'wire that is refused'
+def _legend(boxes, wires):
+    """Lines, width and height of a sample of each style, with its words."""
     lines, x = ['<g class="legend">'], 0
     for style, words in boxes.items():
         lines += ['<g class="%s">' % style, *_box_lines(style, Box(x, 2, 34, 20)), '</g>']

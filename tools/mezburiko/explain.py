@@ -122,9 +122,10 @@ def _summary(folded, pops):
     fates, wires = folded.answer.fates, folded.graph.wires
     literals = sum(1 for fate in fates if fate.value is not None)
     kept = sum(1 for fate in fates if fate.kind is tables.KEPT)
+    swept = ', %d taken' % len(folded.swept) if folded.swept else ''
     lines = ['accepted: ' + counts(folded.graph),
-             '  nodes: %d kept, %d made literal, %d removed; %d known' % (
-                 kept, literals, len(folded.taken), len(folded.answer.known)),
+             '  nodes: %d kept, %d made literal, %d removed%s; %d known' % (
+                 kept, literals, len(folded.taken), swept, len(folded.answer.known)),
              '  wires: %d before, %d after' % (len(wires), len(folded.answer.wires))]
     if pops is not None:
         lines.append('  pops:  %d' % pops)
@@ -145,18 +146,25 @@ def _node_lines(folded):
 
 def node_fate(folded, node):
     """What became of a node, in words."""
-    fate = folded.answer.fates[node]
-    if fate.value is not None:
-        return 'made a literal: ' + format_value(fate.value)
     known = folded.answer.known.get(node)
-    if fate.kind is tables.REMOVED:
-        return 'removed: ' + _taken_words(folded, node) + (', known as ' + format_value(known) if known is not None else '')
-    if known is not None:
-        return 'kept, known as ' + format_value(known)
-    return 'kept' + (' (nofold)' if folded.graph.nodes[node].nofold else '')
+    value = '' if known is None else format_value(known)
+    if folded.is_literal(node):
+        words = 'made a literal: ' + value
+        return 'feeds nothing: taken, was ' + words if node in folded.swept else words + _label(folded, node)
+    words = ', known as ' + value if value else ''
+    if node in folded.swept:
+        return 'feeds nothing: taken' + words
+    if node in folded.taken:
+        return 'removed: ' + _port_words(folded, node) + words
+    return 'kept' + words + (' (nofold)' if folded.graph.nodes[node].nofold else '') + _label(folded, node)
 
 
-def _taken_words(folded, node):
+def _label(folded, node):
+    """Says a label where it had a meaning: beside nodes that were taken."""
+    return ' (label)' if folded.swept and folded.graph.nodes[node].label else ''
+
+
+def _port_words(folded, node):
     graph, taken = folded.graph, folded.taken[node]
     condition = 'Unwired' if taken.condition is None else format_value(taken.condition)
     port = tables.PORTS[taken.port].name

@@ -1,4 +1,6 @@
-"""What an answer did to its graph: which port each removed node took, and what each wire became."""
+"""What an answer did to its graph: which port each removed node took, which nodes feed nothing and were taken, and what
+each wire became."""
+from collections import Counter
 from typing import NamedTuple
 
 from . import tables
@@ -19,8 +21,13 @@ class Change(NamedTuple):
     reason: str = ''
 
 
+def wires_of(changes):
+    return [wire for change in changes for wire in change.wires]
+
+
 class Folded:
-    """Raises NotAnAnswer where the answer cannot be the graph's."""
+    """Raises NotAnAnswer where the answer cannot be the graph's. `swept` has the nodes that the last stage took; it is empty
+    where the stage did not run or found none."""
 
     def __init__(self, graph, answer):
         self.graph, self.answer = graph, answer
@@ -32,7 +39,9 @@ class Folded:
             if fate.value is not None and answer.known.get(node) != fate.value:
                 raise NotAnAnswer('%s is made a literal that is not its known value' % graph.names[node])
         self.values = {(item.node, item.port): item.value for item in graph.properties}
-        self.taken = {node: self._taken(node) for node, fate in enumerate(answer.fates) if fate.kind is tables.REMOVED}
+        gone = [node for node, fate in enumerate(answer.fates) if fate.kind is tables.REMOVED]
+        self.swept = {node for node in gone if self._is_pure(node)}
+        self.taken = {node: self._taken(node) for node in gone if node not in self.swept}
         self._leads = {}
         self.changes = self._all_changes()
 
@@ -40,8 +49,16 @@ class Folded:
         return node in self.taken and self.graph.nodes[node].number_of_class == number_of_class
 
     def is_literal(self, node):
-        """Whether the node was made a literal."""
+        """Whether the node was made a literal; of a gate that was taken, its known value says so."""
+        if node in self.swept:
+            return self.graph.nodes[node].number_of_class != tables.LITERAL and node in self.answer.known
         return self.answer.fates[node].value is not None
+
+    def remains(self, node):
+        return self.answer.fates[node].kind is not tables.REMOVED
+
+    def _is_pure(self, node):
+        return self.graph.nodes[node].node_class.folding in tables.PURE
 
     def _taken(self, node):
         name, node_class = self.graph.names[node], self.graph.nodes[node].node_class
@@ -72,10 +89,50 @@ class Folded:
             changes.append(self._change(wire))
             count += len(changes[-1].wires)
             if count > tables.ANSWER_WIRES:
-                break
-        if [wire for change in changes for wire in change.wires] != self.answer.wires:
+                raise NotAnAnswer('it has fates that give too many wires')
+        if self.swept:
+            self._check_swept(wires_of(changes))
+            changes = [self._swept_change(change) for change in changes]
+        if wires_of(changes) != self.answer.wires:
             raise NotAnAnswer('its wires are not what this graph and these fates give')
         return changes
+
+    def _check_swept(self, wires):
+        """Raises NotAnAnswer where the taken nodes are not those that feed nothing, with these wires before the stage."""
+        name, nodes, dead = self.graph.names, self.graph.nodes, self._dead(wires)
+        for node in sorted(self.swept ^ dead):
+            if node in dead:
+                raise NotAnAnswer('%s feeds nothing and stays, and others are taken' % name[node])
+            if nodes[node].flags:
+                raise NotAnAnswer('%s is taken, and it is marked%s' % (name[node], nodes[node].flag_words))
+            fed = next(wire.target for wire in wires if wire.source == node and wire.target not in dead)
+            raise NotAnAnswer('%s is taken, and it feeds %s' % (name[node], name[fed]))
+        literals = [kind.variant for kind in tables.LITERALS]
+        for node in self.swept:
+            if self.is_literal(node) and self.answer.known[node].variant not in literals:
+                raise NotAnAnswer('%s is known as what no gate gives' % name[node])
+
+    def _dead(self, wires):
+        """The nodes that feed nothing, or only such nodes, and may be taken."""
+        may_go = {node for node in range(len(self.graph.nodes)) if self._is_pure(node) and not self.graph.nodes[node].flags}
+        feeding, sources = Counter(wire.source for wire in wires), {}
+        for wire in wires:
+            sources.setdefault(wire.target, []).append(wire.source)
+        dead = [node for node in may_go if not feeding[node]]
+        for node in dead:
+            for source in sources.get(node, ()):
+                feeding[source] -= 1
+                if not feeding[source] and source in may_go:
+                    dead.append(source)
+        return set(dead)
+
+    def _swept_change(self, change):
+        """The change without the wires into taken nodes."""
+        wires = [wire for wire in change.wires if wire.target not in self.swept]
+        if wires or not change.wires:
+            return Change(wires, change.reason)
+        names = list(dict.fromkeys(self.graph.names[wire.target] for wire in change.wires))
+        return Change([], '%s %s taken' % (', '.join(names), 'is' if len(names) == 1 else 'are'))
 
     def _change(self, wire):
         reason = self._reason(wire)
@@ -93,7 +150,7 @@ class Folded:
         """Why a wire is dropped for its target alone; empty where it is not."""
         name = self.graph.names[wire.target]
         if self.is_literal(wire.target):
-            return '%s is a literal now' % name
+            return '%s is taken' % name if wire.target in self.swept else '%s is a literal now' % name
         into_branch = self.removed(wire.target, tables.BRANCH) and wire.target_port != tables.EXEC
         return '%s is removed' % name if into_branch or self.removed(wire.target, tables.SELECT) else ''
 

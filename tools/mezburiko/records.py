@@ -18,6 +18,15 @@ class Node(NamedTuple):
     def nofold(self):
         return bool(self.flags & tables.NOFOLD)
 
+    @property
+    def label(self):
+        return bool(self.flags & tables.LABEL)
+
+    @property
+    def flag_words(self):
+        """The set bits of the flags byte, each by its name after a space."""
+        return ''.join(' ' + name.lower() for name, bit in tables.FLAGS.items() if self.flags & bit)
+
 
 class Wire(NamedTuple):
     source: int
@@ -213,7 +222,8 @@ class _Reader:
         if field == 'class':
             return self._expected_class()
         if field == 'flags':
-            return range(tables.LISTED_FLAGS + 1), 'flags 0, or 1 (nofold)'
+            bits = ', '.join('%d: %s' % (bit, name.lower()) for name, bit in tables.FLAGS.items())
+            return range(tables.LISTED_FLAGS + 1), 'flags 0 to %d (%s)' % (tables.LISTED_FLAGS, bits)
         if field == 'port':
             ports = tables.WIRE_PORTS if self.kind is tables.WIRE else tables.PORTS
             return range(len(ports)), 'a port from ' + listed(tables.PORTS, range(len(ports)))

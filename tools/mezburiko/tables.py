@@ -90,6 +90,8 @@ UNARY = Folding('Unary', (INPUT_A,), True)
 BINARY = Folding('Binary', (INPUT_A, INPUT_B), True)
 TERNARY = Folding('Ternary', (INPUT_A, INPUT_B, THIRD_INPUT), True)
 FOLDINGS = (NEVER, LITERAL_FOLDING, MICROCHIP, SELECT_FOLDING, BRANCH_FOLDING, UNARY, BINARY, TERNARY)
+# of nodes that only give a value: those that the last stage takes where they feed nothing and have no flag
+PURE = (LITERAL_FOLDING, UNARY, BINARY, TERNARY)
 
 CLASSES = tuple(Class(number, *entry) for number, entry in enumerate([
     ('OTHER', 'Other', NEVER),
@@ -158,9 +160,9 @@ UNWIRED, INT, FLOAT, BOOL, VECTOR, ROTATOR, QUAT, COLOR, TEXT = VARIANTS
 ROW_VARIANTS = 3
 
 # the bits of a node's flags byte; every other bit is 0
-FLAGS = {'NOFOLD': 0x01}
-NOFOLD = FLAGS['NOFOLD']
-LISTED_FLAGS = 0x01
+FLAGS = {'NOFOLD': 0x01, 'LABEL': 0x02}
+NOFOLD, LABEL = FLAGS.values()
+LISTED_FLAGS = NOFOLD | LABEL
 
 # how many bytes a text has at most; its record has so many, and 0 for those that it does not use
 TEXT_BYTES = 16

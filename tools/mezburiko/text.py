@@ -1,8 +1,9 @@
 """The text form of a graph. Lines stand in any order; those of one kind keep theirs in the records.
 
     # a comment
-    steps: Literal Value=200            a node: name, class, then `nofold` and properties where it has some
-    scaled: Multiply nofold InputB=2.5
+    steps: Literal Value=200            a node: name, class, then `nofold`, `label` and properties where it has some
+    scaled: Multiply nofold InputB=2.5  `nofold`: it is left as it is
+    spare: Literal label Value=0.98     `label`: it is named by a label, and stays though it feeds nothing
     scaled.InputB = 2.5                 a property on a line of its own
     steps -> scaled.InputA              a wire; the source's port is Output unless written
     way.ExecOutA -> pen.Exec
@@ -26,6 +27,7 @@ TOKEN = re.compile(r'\s*(?:(#.*)|(->|[-+]?\.?\d[\w.]*(?:(?<=[eE])[-+]\d\w*)?|-in
 NAME = re.compile(r'[^\W\d]\w*')
 UNCLOSED = '"'
 WORDS = ('row', 'annihilator')
+FLAGS = {name.lower(): bit for name, bit in tables.FLAGS.items()}
 LONGEST_LINE = 100
 
 
@@ -104,11 +106,11 @@ class _Line:
         self.at += 1
         return self.tokens[self.at - 1], self.columns[self.at - 1]
 
-    def entry(self, table, wanted):
-        """An entry of a table by its name."""
+    def entry(self, table, wanted, others=()):
+        """An entry of a table by its name; `others` are words that could have stood here too."""
         entries = {entry.name: entry for entry in table}
         if NAME.fullmatch(self.peek()) and self.peek() not in entries:
-            self.stop("no %s is called '%s'%s" % (wanted, self.peek(), near(self.peek(), entries)))
+            self.stop("no %s is called '%s'%s" % (wanted, self.peek(), near(self.peek(), [*entries, *others])))
         return entries[self.name('a ' + wanted)[0]]
 
     def value(self):
@@ -177,15 +179,21 @@ class _Parser:
         self.graph.nodes.append(Node(tables.OTHER, 0))
         line.take(':')
         node_class = line.entry(tables.CLASSES, 'class')
-        flags = 0
-        if line.peek() == 'nofold':
-            line.take('nofold')
-            flags = tables.NOFOLD
-        self.graph.nodes[-1] = Node(node_class.number, flags)
+        self.graph.nodes[-1] = Node(node_class.number, self._read_flags(line))
         while line.peek():
             port_column = line.column
-            port = line.entry(tables.PORTS, 'port')
+            if line.peek() in FLAGS:
+                line.stop("'%s' stands before the properties" % line.peek())
+            port = line.entry(tables.PORTS, 'port', FLAGS)
             self._read_property(line, (name, column), port, port_column)
+
+    def _read_flags(self, line):
+        flags = 0
+        while line.peek() in FLAGS:
+            if flags & FLAGS[line.peek()]:
+                line.stop("'%s' stands there already" % line.peek())
+            flags |= FLAGS[line.name('a flag')[0]]
+        return flags
 
     def _read_property(self, line, name, port, column):
         line.take('=')
@@ -322,7 +330,7 @@ def _nodes(graph):
             beside.setdefault(item.node, []).append(item)
     lines = []
     for number, node in enumerate(graph.nodes):
-        head = '%s: %s%s' % (graph.names[number], node.node_class.name, ' nofold' if node.nofold else '')
+        head = '%s: %s%s' % (graph.names[number], node.node_class.name, node.flag_words)
         items = beside.get(number, [])
         full = head + ''.join(' %s=%s' % (tables.PORTS[item.port].name, format_value(item.value)) for item in items)
         lines += [full] if len(full) <= LONGEST_LINE else [head] + [_property_line(graph, item) for item in items]

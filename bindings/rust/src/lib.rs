@@ -18,10 +18,12 @@
 //! # Ok::<(), mezburiko::Refusal>(())
 //! ```
 //!
-//! Beside the folder, [`whole_root`] gives the whole root of a number and what is over.
+//! [`fold_swept`] folds in the same way, and then takes the nodes that feed nothing. Beside the folder, [`whole_root`]
+//! gives the whole root of a number and what is over.
 //!
-//! A fold takes about 116 KB of stack. A call allocates nothing and shares nothing with other calls, so it may run in any
-//! number of threads at once. The package uses `core` alone but for [`fold_to_vec`], which the feature `alloc` has.
+//! A fold takes about 116 KB of stack, a swept one 145 KB. A call allocates nothing and shares nothing with other
+//! calls, so it may run in any number of threads at once. The package uses `core` alone but for [`fold_to_vec`] and
+//! [`fold_swept_to_vec`], which the feature `alloc` has.
 //!
 //! The static library `libmezburiko.a` is linked from the folder that the environment variable `MEZBURIKO_LIB_DIR` names,
 //! as an absolute path, or else from `target/staticlib` of the repository, where `make library` puts it.
@@ -174,18 +176,69 @@ unsafe extern "C" {
         length: *mut usize,
         pops: *mut usize,
     ) -> u8;
+    fn mezburiko_fold_swept(
+        input: *const u8,
+        input_length: usize,
+        out: *mut u8,
+        out_length: usize,
+        place: *mut usize,
+        length: *mut usize,
+        pops: *mut usize,
+    ) -> u8;
     fn mezburiko_whole_root(n: u64, remainder: *mut u64) -> u64;
 }
+
+/// A fold of the library.
+type Entry = unsafe extern "C" fn(
+    *const u8,
+    usize,
+    *mut u8,
+    usize,
+    *mut usize,
+    *mut usize,
+    *mut usize,
+) -> u8;
 
 /// Folds the graph that `input` says and writes the answer to the front of `out`.
 ///
 /// The bytes of `out` past the answer stay as they were; where the input is refused, all of them do.
 pub fn fold(input: &[u8], out: &mut [u8]) -> Result<Folded, Refusal> {
+    // SAFETY: it is a fold of the library.
+    unsafe { call(mezburiko_fold, input, out) }
+}
+
+/// Folds as [`fold`] does, and then takes the nodes that feed nothing.
+///
+/// A Literal or a gate (classes 1 and 6 to 42, made a literal or not, known or not) whose flags are 0 and which no
+/// rewritten wire leaves is taken, its incoming wires with it, and so on until none is left. A loop stays, as each of its
+/// nodes feeds another or itself; so does a node with flag bit 0 (nofold) or bit 1, which marks one that a label names, and
+/// what feeds it. A taken node has the fate 11; known values and pops are those of [`fold`].
+///
+/// [`Reason::NoSpace`] counts the rewritten wires before any node is taken, and measures the answer after it.
+///
+/// ```
+/// // two Literals that nothing reads: a label names the second
+/// let mut out = [0; 16];
+/// let folded = mezburiko::fold_swept(&[0x01, 0x01, 0x00, 0x01, 0x01, 0x02], &mut out)?;
+/// assert_eq!(out[..folded.length], [0x11, 0x00, 0x00, 0x10, 0x01, 0x00]);
+/// # Ok::<(), mezburiko::Refusal>(())
+/// ```
+pub fn fold_swept(input: &[u8], out: &mut [u8]) -> Result<Folded, Refusal> {
+    // SAFETY: it is a fold of the library.
+    unsafe { call(mezburiko_fold_swept, input, out) }
+}
+
+/// Calls a fold of the library.
+///
+/// # Safety
+///
+/// `entry` is a fold of the library.
+unsafe fn call(entry: Entry, input: &[u8], out: &mut [u8]) -> Result<Folded, Refusal> {
     let (mut place, mut length, mut pops) = (0, 0, 0);
     // SAFETY: the slices and the three numbers are valid for their lengths and do not overlap, by the borrows; the
     // pointers are used within the call only. The library has no other duty on its caller and no state.
     let number = unsafe {
-        mezburiko_fold(
+        entry(
             input.as_ptr(),
             input.len(),
             out.as_mut_ptr(),
@@ -208,6 +261,23 @@ pub fn fold(input: &[u8], out: &mut [u8]) -> Result<Folded, Refusal> {
 /// `fold` lends 65,536 bytes and refuses longer answers.
 #[cfg(feature = "alloc")]
 pub fn fold_to_vec(input: &[u8]) -> Result<(Vec<u8>, usize), Refusal> {
+    to_vec(fold, input)
+}
+
+/// Folds the graph that `input` says, and takes the nodes that feed nothing, as [`fold_swept`] does: the answer and the
+/// pops.
+///
+/// There is room for every answer, as with [`fold_to_vec`].
+#[cfg(feature = "alloc")]
+pub fn fold_swept_to_vec(input: &[u8]) -> Result<(Vec<u8>, usize), Refusal> {
+    to_vec(fold_swept, input)
+}
+
+#[cfg(feature = "alloc")]
+fn to_vec(
+    fold: fn(&[u8], &mut [u8]) -> Result<Folded, Refusal>,
+    input: &[u8],
+) -> Result<(Vec<u8>, usize), Refusal> {
     let mut answer = vec![0; MAX_ANSWER];
     let folded = fold(input, &mut answer)?;
     answer.truncate(folded.length);
