@@ -25,6 +25,12 @@ pub fn records(bytes: &[u8]) -> impl Iterator<Item = &[u8]> {
     })
 }
 
+/// The node records of an input.
+pub fn nodes(input: &[u8]) -> impl Iterator<Item = &[u8]> {
+    let records = input.chunks_exact(3);
+    records.take_while(|record| record[0] == kind::NODE)
+}
+
 /// Where the floats of an answer's record stand.
 fn floats(record: &[u8]) -> Range<usize> {
     match record[0] {
@@ -43,10 +49,8 @@ pub enum Zeros {
 
 /// How zeros of the Rust's answer to an input are compared: it leaves the sign open that Min, Max and Clamp give.
 pub fn zeros_of_rust(input: &[u8]) -> Zeros {
-    let mut nodes = input
-        .chunks_exact(3)
-        .take_while(|record| record[0] == kind::NODE);
-    match nodes.any(|record| (class::MATH_MIN..=class::MATH_CLAMP).contains(&record[1])) {
+    let is_open = |record: &[u8]| (class::MATH_MIN..=class::MATH_CLAMP).contains(&record[1]);
+    match nodes(input).any(is_open) {
         true => Zeros::Alike,
         false => Zeros::Signed,
     }

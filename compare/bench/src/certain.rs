@@ -1,12 +1,14 @@
-//! Certain small graphs of gates: zeros whose sign the Rust leaves open, Ints around and beyond 2^53, roots, and texts; and
-//! gates whose own row is the one that is missing, or comes twice.
+//! Certain small graphs of gates: zeros whose sign the Rust leaves open, Ints around and beyond 2^53, roots, texts, and nodes
+//! that feed nothing; and gates whose own row is the one that is missing, or comes twice.
+mod sweeps;
 mod texts;
 
 use crate::records::{Graph, LAST_CLASS, VARIANTS, class, orders_text, port, variant};
 use crate::tables::INPUT_PORTS;
 
 pub fn all() -> Vec<Vec<u8>> {
-    [zeros(), long_ints(), roots(), texts::all()].concat()
+    let groups = [zeros(), long_ints(), roots(), texts::all(), sweeps::all()];
+    groups.concat()
 }
 
 /// Min, Max and Clamp of every two or three zeros: Int 0, 0.0 and -0.0.

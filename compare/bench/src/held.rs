@@ -1,7 +1,7 @@
 //! Holds a folder to what the oracle says: the four numbers, the answer, and every other byte of the buffer.
 use crate::alike::{PARTS, Zeros, alike, parts};
-use crate::folders::{self, Fold, Outcome};
-use crate::oracle::Said;
+use crate::folders::{Entry, Fold, Outcome};
+use crate::oracle::{Held, Said};
 use crate::records::limit;
 use std::borrow::Cow;
 use std::cell::Cell;
@@ -35,15 +35,16 @@ fn run(fold: Fold, input: &[u8], out: &mut [u8]) -> Option<Outcome> {
     outcome.ok()
 }
 
-/// What the oracle says, with the plain folder's zeros where the Rust leaves their sign open; `None` if the plain folder
-/// differs in more.
-pub fn signed<'a>(input: &[u8], said: &'a Said) -> Option<Cow<'a, Said>> {
+/// What the oracle says of an entry, with the plain folder's zeros where the Rust leaves their sign open; `None` if the
+/// plain folder differs in more.
+pub fn signed<'a>(entry: Entry, input: &[u8], held: &'a Held) -> Option<Cow<'a, Said>> {
+    let said = held.said(entry);
     let (Zeros::Alike, Some(needed)) = (said.zeros(), said.needed()) else {
         return Some(Cow::Borrowed(said));
     };
     let (wanted, bytes) = said.wanted(needed);
     let mut answer = vec![0; needed];
-    let outcome = run(folders::plain, input, &mut answer)?;
+    let outcome = run(entry.plain(), input, &mut answer)?;
     let same = outcome == wanted && same_answer(said, bytes, &answer);
     same.then(|| Cow::Owned(said.signed(answer)))
 }

@@ -4,7 +4,7 @@
 //!   `families` make them at random from `rng`, `operands` and `texts`, and `damage` spoils them.
 //! - Folders: `folders` and `original` run them, and `oracle` asks the original as programs.
 //! - Comparison: `alike` says which answers count as the same, `held` holds a folder to the oracles,
-//!   `shrink` makes an input that differs small, `tally` and `progress` tell.
+//!   `shrink` makes an input that differs small, `tally`, `sweeps` and `progress` tell.
 //! - Measuring: `timing` and `stack`, with `table` to print.
 
 pub mod alike;
@@ -23,6 +23,7 @@ pub mod rng;
 pub mod shapes;
 pub mod shrink;
 pub mod stack;
+pub mod sweeps;
 pub mod table;
 pub mod tables;
 pub mod tally;

@@ -1,12 +1,45 @@
 //! The oracles' programs, asked through pipes (docs/ORACLE.md).
 use crate::alike::{Zeros, alike, zeros_of_rust};
-use crate::folders::Outcome;
+use crate::folders::{Entry, Outcome};
 use crate::records::limit;
 use std::io::{BufRead, BufReader, Write};
 use std::process::{Child, ChildStdin, ChildStdout, Command, Stdio};
 use std::thread;
 
-/// What an oracle says of an input, for a buffer of any length.
+/// What folders are held to on an input.
+#[derive(Clone, Debug)]
+pub struct Held {
+    fold: Said,
+    swept: Said,
+    pub yardstick: Yardstick,
+}
+
+impl Held {
+    /// By an oracle's line.
+    fn parse(line: &str, input: &[u8], yardstick: Yardstick) -> Held {
+        let fields: Vec<&str> = line.trim_end().split(' ').collect();
+        let said = |bytes: usize| Said::parse(&fields, bytes, input);
+        Held {
+            fold: said(3),
+            swept: said(4),
+            yardstick,
+        }
+    }
+
+    /// What is said of an entry.
+    pub fn said(&self, entry: Entry) -> &Said {
+        match entry {
+            Entry::Fold => &self.fold,
+            Entry::FoldSwept => &self.swept,
+        }
+    }
+
+    fn agrees(&self, other: &Held) -> bool {
+        self.fold.agrees(&other.fold) && self.swept.agrees(&other.swept)
+    }
+}
+
+/// What an oracle says of an entry on an input, for a buffer of any length.
 #[derive(Clone, Debug)]
 pub enum Said {
     Refused {
@@ -24,8 +57,8 @@ pub enum Said {
 }
 
 impl Said {
-    fn parse(line: &str, input: &[u8]) -> Said {
-        let fields: Vec<&str> = line.trim_end().split(' ').collect();
+    /// Of the fields of a line, with the number of the one that has the bytes.
+    fn parse(fields: &[&str], bytes: usize, input: &[u8]) -> Said {
         let number = |i: usize| fields[i].parse::<u64>().expect("a number");
         match fields[0] {
             "invalid" => Said::Refused {
@@ -39,7 +72,7 @@ impl Said {
             word @ ("answer" | "bag") => Said::Answer {
                 pops: number(1) as usize,
                 wires: number(2),
-                bytes: unhex(fields[3]),
+                bytes: unhex(fields[bytes]),
                 bag: word == "bag",
                 zeros: zeros_of_rust(input),
             },
@@ -133,7 +166,7 @@ impl Oracles {
 
     /// What folders are held to on each input of a batch. Where an oracle ends before its time, the number of the input
     /// that it ends on.
-    pub fn ask(&mut self, inputs: &[&[u8]]) -> Result<Vec<(Said, Yardstick)>, usize> {
+    pub fn ask(&mut self, inputs: &[&[u8]]) -> Result<Vec<Held>, usize> {
         let mut batch = Vec::new();
         for input in inputs {
             batch.extend((input.len() as u32).to_le_bytes());
@@ -161,22 +194,21 @@ impl Oracles {
         }
     }
 
-    pub fn ask_one(&mut self, input: &[u8]) -> Option<Said> {
-        let (said, _) = self.ask(&[input]).ok()?.pop()?;
-        Some(said)
+    pub fn ask_one(&mut self, input: &[u8]) -> Option<Held> {
+        self.ask(&[input]).ok()?.pop()
     }
 }
 
 /// What folders are held to on an input, of both oracles' lines.
-fn held_to(input: &[u8], original: &str, exact: &str) -> (Said, Yardstick) {
-    let said = Said::parse(original, input);
+fn held_to(input: &[u8], original: &str, exact: &str) -> Held {
+    let held = Held::parse(original, input, Yardstick::Original);
     if original == exact {
-        return (said, Yardstick::Original);
+        return held;
     }
-    let exact = Said::parse(exact, input);
-    match said.agrees(&exact) {
-        true => (said, Yardstick::Original),
-        false => (exact, Yardstick::Exact),
+    let exact = Held::parse(exact, input, Yardstick::Exact);
+    match held.agrees(&exact) {
+        true => held,
+        false => exact,
     }
 }
 

@@ -1,7 +1,7 @@
 //! The graphs of the tables: large ones that fold much or nothing, and ones made to be slow; and inputs at the limits.
 use crate::original;
 use crate::random;
-use crate::records::{Graph, LAST_CLASS, class, limit, port, variant};
+use crate::records::{Graph, LAST_CLASS, class, flag, limit, port, variant};
 use crate::rng::Rng;
 use crate::tables::ROW_LENGTHS;
 
@@ -96,6 +96,22 @@ pub fn hard() -> Vec<Shape> {
     ]
 }
 
+/// Graphs at the limits of nodes and wires in which nothing becomes known: in chains to a dead end a sweep takes every node,
+/// one after the other, and none where a label names the last.
+pub fn dead() -> Vec<Shape> {
+    let mut labelled = dead_chain(NODES);
+    labelled.nodes[NODES - 1].1 = flag::LABEL;
+    vec![
+        shape("dead chain", &dead_chain(NODES)),
+        shape("dead chain, backward", &backward(dead_chain(NODES))),
+        shape(
+            "dead chain, nodes and wires shuffled",
+            &shuffled(dead_chain(NODES)),
+        ),
+        shape("dead chain with a label at its end", &labelled),
+    ]
+}
+
 /// Random graphs of 1,024 nodes that are accepted, the same in each run.
 pub fn generated(count: usize) -> Vec<Shape> {
     let graphs = (0..).map(|seed| random::graph(&mut Rng::new(seed), NODES));
@@ -115,6 +131,16 @@ fn is_accepted(shape: &Shape) -> bool {
 /// A Literal of 0 and Adds, four wires from each node to the next.
 pub fn chain(nodes: usize) -> Graph {
     let mut graph = literal_and_adds(nodes);
+    for target in 1..nodes as u16 {
+        link(&mut graph, target - 1, target);
+    }
+    graph
+}
+
+/// Adds that have no row, four wires from each to the next.
+pub fn dead_chain(nodes: usize) -> Graph {
+    let mut graph = Graph::default();
+    graph.nodes(class::MATH_ADD, nodes);
     for target in 1..nodes as u16 {
         link(&mut graph, target - 1, target);
     }

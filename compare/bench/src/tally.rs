@@ -1,7 +1,9 @@
 //! Counts what a run has met, and prints them.
-use crate::alike::{Zeros, has_zero, parts, records};
-use crate::oracle::{Said, Yardstick};
-use crate::records::{class, kind, variant, variant_of};
+use crate::alike::{Zeros, has_zero, nodes, parts, records};
+use crate::folders::Entry;
+use crate::oracle::{Held, Said, Yardstick};
+use crate::records::{class, flag, kind, variant, variant_of};
+use crate::sweeps::Sweep;
 use crate::table::{Table, whole};
 use crate::tables::{CLASS_NAMES, VARIANT_NAMES};
 use std::collections::{BTreeMap, HashSet};
@@ -18,8 +20,9 @@ pub struct Tally {
     families: BTreeMap<&'static str, ByNumber>,
     /// Those of them that are held to the exact oracle.
     exact: ByNumber,
-    /// Folds, each of an input and a length of buffer.
+    /// Folds, each of an input and a length of buffer, and folds with the sweep.
     folds: ByNumber,
+    swept_folds: ByNumber,
     /// Different places of each refusal.
     places: BTreeMap<u8, HashSet<usize>>,
     /// Of answers that are accepted.
@@ -29,24 +32,25 @@ pub struct Tally {
 }
 
 impl Tally {
-    pub fn add_fold(&mut self, said: &Said, buffer: usize) {
-        self.folds[usize::from(said.wanted(buffer).0.number)] += 1;
+    pub fn add_fold(&mut self, entry: Entry, said: &Said, buffer: usize) {
+        let folds = match entry {
+            Entry::Fold => &mut self.folds,
+            Entry::FoldSwept => &mut self.swept_folds,
+        };
+        folds[usize::from(said.wanted(buffer).0.number)] += 1;
     }
 
-    pub fn add_input(
-        &mut self,
-        family: &'static str,
-        input: &[u8],
-        said: &Said,
-        yardstick: Yardstick,
-    ) {
+    pub fn add_input(&mut self, family: &'static str, input: &[u8], held: &Held) {
+        let said = held.said(Entry::Fold);
         let (outcome, answer) = said.wanted(usize::MAX);
         let number = usize::from(outcome.number);
         self.inputs += 1;
         self.families.entry(family).or_default()[number] += 1;
-        self.exact[number] += usize::from(yardstick == Yardstick::Exact);
+        self.exact[number] += usize::from(held.yardstick == Yardstick::Exact);
         if outcome.number == 0 {
             self.add_answer(input, answer, said.is_bag(), outcome.pops);
+            let (_, swept) = held.said(Entry::FoldSwept).wanted(usize::MAX);
+            self.add_sweep(input, &Sweep::of(input, answer, swept));
         } else {
             let places = self.places.entry(outcome.number).or_default();
             places.insert(outcome.place);
@@ -91,6 +95,21 @@ impl Tally {
         }
     }
 
+    fn add_sweep(&mut self, input: &[u8], sweep: &Sweep) {
+        let labelled = nodes(input).any(|record| record[2] & flag::LABEL != 0);
+        self.count(17, "inputs with labels", usize::from(labelled));
+        let takes = usize::from(sweep.taken() > 0);
+        self.count(18, "inputs of which the sweep takes nodes", takes);
+        self.count(19, "taken Literals", sweep.literals);
+        self.count(20, "taken gates that were made literal", sweep.made);
+        self.count(21, "taken gates that were not", sweep.gates);
+        self.count(22, "wires that go with taken nodes", sweep.wires);
+        let stay = "Literals and gates that stay though no wire leaves them";
+        self.count(23, format!("labelled {stay}"), sweep.labelled);
+        self.count(24, format!("nofold {stay}"), sweep.nofold);
+        self.count(25, "nodes that stay for a loop alone", sweep.looped);
+    }
+
     /// Counts a known value or a fate.
     fn add_node(&mut self, input: &[u8], record: &[u8]) {
         let node = usize::from(u16::from_le_bytes([record[1], record[2]]));
@@ -111,19 +130,20 @@ impl Tally {
 
     pub fn print(&self) {
         self.print_families();
-        let mut table = Table::new(&["outcome", "folds", "different places"]);
+        let mut table = Table::new(&["outcome", "folds", "with the sweep", "different places"]);
         for (number, &folds) in self
             .folds
             .iter()
             .enumerate()
             .filter(|(_, folds)| **folds > 0)
         {
+            let swept = self.swept_folds[number];
             let places = self.places.get(&(number as u8)).map_or(0, HashSet::len);
             let name = match number {
                 0 => "accepted".to_string(),
                 _ => format!("refused {number}"),
             };
-            table.row(vec![name, whole(folds), whole(places)]);
+            table.row(vec![name, whole(folds), whole(swept), whole(places)]);
         }
         table.print("Folds, each of an input and a length of buffer");
         let mut table = Table::new(&["what", "count"]);
@@ -165,7 +185,8 @@ impl Tally {
         table.print("Inputs by outcome, accepted or the refusal's number");
     }
 
-    pub fn fold_count(&self) -> usize {
-        self.folds.iter().sum()
+    /// How many folds were compared, and how many with the sweep.
+    pub fn fold_counts(&self) -> [usize; 2] {
+        [self.folds, self.swept_folds].map(|folds| folds.iter().sum())
     }
 }

@@ -1,6 +1,6 @@
 //! Times: the best of many calls, the folders in turn.
 use crate::alike::{Zeros, alike, zeros_of_rust};
-use crate::folders::{self, Fold, Outcome, Worklist};
+use crate::folders::{self, Entry, Outcome, Worklist};
 use crate::original;
 use crate::shapes::Shape;
 use std::hint::black_box;
@@ -103,7 +103,6 @@ pub fn builds_all<F>(shapes: &[Shape], builds: &[F], effort: Effort) -> Vec<Vec<
 where
     F: Fn(&[u8], &mut [u8]) -> Outcome,
 {
-    let mut out = vec![0; BUFFER];
     for shape in shapes {
         let (first, rest) = builds.split_first().expect("a build");
         let answer = run(first, &shape.input);
@@ -111,16 +110,36 @@ where
             assert_eq!(run(build, &shape.input), answer, "{}", shape.name);
         }
     }
-    let mut times = vec![vec![NEVER; builds.len()]; shapes.len()];
+    let builds: Vec<Option<&F>> = builds.iter().map(Some).collect();
+    in_turns(shapes, &builds, effort)
+}
+
+/// The best times with the sweep of the proved and the plain folder, and of their folds without it, all in turn, once it is
+/// seen that the two answer alike.
+pub fn swept_all(shapes: &[Shape], effort: Effort) -> Vec<[Duration; 4]> {
+    for shape in shapes {
+        check_proved(Entry::FoldSwept, shape);
+    }
+    let entries = [Entry::FoldSwept, Entry::Fold];
+    let folds = entries.map(|entry| [entry.proved(), Some(entry.plain())]);
+    let times = in_turns(shapes, folds.as_flattened(), effort).into_iter();
+    let four = times.map(|times| times.try_into().expect("four of them"));
+    four.collect()
+}
+
+/// The best times of each of some functions on each graph, all that there are in turn.
+fn in_turns<F>(shapes: &[Shape], functions: &[Option<F>], effort: Effort) -> Vec<Vec<Duration>>
+where
+    F: Fn(&[u8], &mut [u8]) -> Outcome,
+{
+    let mut out = vec![0; BUFFER];
+    let mut times = vec![vec![NEVER; functions.len()]; shapes.len()];
     for _ in 0..effort.rounds {
         for (shape, times) in shapes.iter().zip(&mut times) {
             repeat(effort.time, |call| {
-                for k in 0..builds.len() {
-                    let k = (call + k) % builds.len();
-                    out.fill(0);
-                    shorten(&mut times[k], || {
-                        builds[k](black_box(&shape.input), black_box(&mut out))
-                    });
+                for k in 0..functions.len() {
+                    let k = (call + k) % functions.len();
+                    fold_once(functions[k].as_ref(), &shape.input, &mut out, &mut times[k]);
                 }
             });
         }
@@ -129,17 +148,20 @@ where
 }
 
 #[inline(always)]
-fn fold_once(fold: Option<Fold>, input: &[u8], out: &mut [u8], best: &mut Duration) {
+fn fold_once<F>(fold: Option<F>, input: &[u8], out: &mut [u8], best: &mut Duration)
+where
+    F: Fn(&[u8], &mut [u8]) -> Outcome,
+{
     if let Some(fold) = fold {
         out.fill(0);
         shorten(best, || fold(black_box(input), black_box(out)));
     }
 }
 
-/// The answer of the plain folder, once it is seen that the others give it too.
-pub fn check(shape: &Shape) -> (Outcome, Vec<u8>) {
-    let (outcome, answer) = run(folders::plain, &shape.input);
-    if let Some(proved) = folders::PROVED {
+/// The answer of the plain folder, once it is seen that the proved one gives it too.
+pub fn check_proved(entry: Entry, shape: &Shape) -> (Outcome, Vec<u8>) {
+    let (outcome, answer) = run(entry.plain(), &shape.input);
+    if let Some(proved) = entry.proved() {
         let (other, bytes) = run(proved, &shape.input);
         assert!(
             other == outcome && alike(&answer, &bytes, Zeros::Signed),
@@ -147,6 +169,12 @@ pub fn check(shape: &Shape) -> (Outcome, Vec<u8>) {
             shape.name
         );
     }
+    (outcome, answer)
+}
+
+/// The answer of the plain folder, once it is seen that the others give it too.
+pub fn check(shape: &Shape) -> (Outcome, Vec<u8>) {
+    let (outcome, answer) = check_proved(Entry::Fold, shape);
     if shape.original_ends {
         let mut prepared = original::prepare(&shape.input);
         let folded = original::fold(&mut prepared);

@@ -1,6 +1,6 @@
 //! The answer: known values, fates, rewritten wires.
 use crate::Refusal;
-use crate::decode::Graph;
+use crate::decode::{Graph, wire_target};
 use crate::listing::*;
 use crate::rewrite::{MAX_REWRITTEN, Rewriting, Writer};
 use crate::value::Known;
@@ -23,8 +23,7 @@ impl Found<'_> {
 
     /// Writes the answer and gives its length. A refused answer leaves `out` as it is.
     pub fn write(&self, out: &mut [u8]) -> Result<usize, Refusal> {
-        let plans = self.plans;
-        if plans.literals || plans.selects || plans.branches {
+        if self.plans.any() {
             return self.write_rewritten(out);
         }
         let wires = self.graph.wires;
@@ -45,6 +44,28 @@ impl Found<'_> {
         }
         let mut writer = self.write_nodes(out);
         rewriting.write(&mut writer);
+        Ok(writer.at)
+    }
+
+    /// Writes the answer of which so many of the rewritten wires stay, those into no removed node,
+    /// and gives its length. A refused answer leaves `out` as it is.
+    pub fn write_swept(
+        &self,
+        wires: &[[u8; 7]],
+        left: usize,
+        out: &mut [u8],
+    ) -> Result<usize, Refusal> {
+        self.check_room(left, out)?;
+        let mut writer = self.write_nodes(out);
+        if left == wires.len() {
+            writer.put(wires.as_flattened());
+            return Ok(writer.at);
+        }
+        for wire in wires {
+            if !self.plans.is_removed(wire_target(wire)) {
+                writer.put(wire);
+            }
+        }
         Ok(writer.at)
     }
 

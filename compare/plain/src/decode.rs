@@ -249,7 +249,7 @@ fn listed(record: &[u8]) -> bool {
 
 #[inline(always)]
 fn node_listed(class: u8, flags: u8) -> bool {
-    usize::from(class) < CLASSES && flags <= 1
+    usize::from(class) < CLASSES && flags <= flag::NOFOLD | flag::LABEL
 }
 
 #[inline(always)]

@@ -43,6 +43,12 @@ pub mod port {
     pub const VALUE: u8 = 10;
 }
 
+/// The bits of a node's flags.
+pub mod flag {
+    pub const NOFOLD: u8 = 1;
+    pub const LABEL: u8 = 2;
+}
+
 /// The last port of a wire, and that of a property.
 pub const LAST_WIRE_PORT: u8 = port::INPUT_C;
 pub const LAST_PORT: u8 = port::VALUE;

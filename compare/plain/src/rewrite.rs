@@ -11,6 +11,8 @@ use crate::listing::*;
 use crate::worklist::{Plan, Plans};
 
 pub const MAX_REWRITTEN: usize = MAX_WIRES;
+/// How many rewritten wires there may be before a sweep.
+pub const MAX_UNSWEPT: usize = MAX_WIRES;
 
 /// What a wire into a node becomes.
 mod target {
@@ -37,6 +39,28 @@ mod source {
 
 /// The end of a list of wires.
 const END: u16 = u16::MAX;
+
+/// The rewritten wires: the graph's own where nothing is planned, else in `buffer`. Refusal 10 where
+/// they are too many.
+pub fn rewritten<'a>(
+    graph: &'a Graph,
+    plans: &Plans,
+    buffer: &'a mut [u8; 7 * MAX_UNSWEPT],
+) -> Result<&'a [[u8; 7]], Refusal> {
+    if !plans.any() {
+        return Ok(graph.wires);
+    }
+    let mut rewriting = Rewriting::new(graph, plans);
+    rewriting.prepare();
+    // Without Selects and Branches the wires only get fewer.
+    if (plans.selects || plans.branches) && rewriting.count()? > MAX_UNSWEPT {
+        return Err((10, 0));
+    }
+    let mut writer = Writer { out: buffer, at: 0 };
+    rewriting.write(&mut writer);
+    let length = writer.at;
+    Ok(buffer[..length].as_chunks().0)
+}
 
 pub struct Rewriting<'a> {
     graph: &'a Graph<'a>,

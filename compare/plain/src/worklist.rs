@@ -43,9 +43,29 @@ impl Plans {
         }
     }
 
+    /// Whether something is planned.
+    #[inline(always)]
+    pub fn any(&self) -> bool {
+        self.literals || self.selects || self.branches
+    }
+
     #[inline(always)]
     pub fn is_branch(&self, node: u16) -> bool {
         self.plan[usize::from(node)] == Plan::Truncate
+    }
+
+    /// Gives a node the fate of a planned Select; of a literal, with the bytes of its value.
+    pub fn remove(&mut self, node: usize, value_bytes: usize) {
+        if self.plan[node] == Plan::BecomeLiteral {
+            self.literal_bytes -= value_bytes;
+        }
+        self.plan[node] = Plan::ShortCircuit;
+    }
+
+    #[inline(always)]
+    pub fn is_removed(&self, node: u16) -> bool {
+        let plan = self.plan[usize::from(node)];
+        matches!(plan, Plan::ShortCircuit | Plan::Truncate)
     }
 
     /// Whether a planned Branch takes this port.
@@ -189,8 +209,8 @@ impl Trials<'_> {
     /// Tries an unknown node: adds what the trial gives, and says whether the node is known then.
     #[inline(always)]
     fn becomes_known(&mut self, node: usize) -> bool {
-        let [_, class, nofold] = self.graph.nodes[node];
-        if nofold != 0 {
+        let [_, class, flags] = self.graph.nodes[node];
+        if flags & flag::NOFOLD != 0 {
             return false;
         }
         match class {

@@ -1,5 +1,5 @@
 //! Times the folds of several builds of the library in turn: `builds NAME=SHARED_LIBRARY ..` (`compare/bench/builds`).
-use bench::folders::{Entry, Outcome, call};
+use bench::folders::{Function, Outcome, call};
 use bench::records::Graph;
 use bench::shapes::{self, NODES, Shape};
 use bench::table::{Table, micros};
@@ -20,21 +20,21 @@ unsafe extern "C" {
     fn dlsym(library: *mut c_void, name: *const c_char) -> *mut c_void;
 }
 
-/// The entry of a shared library.
-fn load(file: &str) -> Entry {
+/// The function of a shared library.
+fn load(file: &str) -> Function {
     let path = CString::new(file).expect("a path has no zeros");
     // SAFETY: both strings end in a zero. The library stays loaded, and its mezburiko_fold is that of the header.
     unsafe {
         let library = dlopen(path.as_ptr(), RTLD_NOW);
         assert!(!library.is_null(), "{file} is not loaded");
-        let entry = dlsym(library, c"mezburiko_fold".as_ptr());
-        assert!(!entry.is_null(), "{file} has no mezburiko_fold");
-        mem::transmute::<*mut c_void, Entry>(entry)
+        let function = dlsym(library, c"mezburiko_fold".as_ptr());
+        assert!(!function.is_null(), "{file} has no mezburiko_fold");
+        mem::transmute::<*mut c_void, Function>(function)
     }
 }
 
 fn main() {
-    let builds: Vec<(String, Entry)> = env::args()
+    let builds: Vec<(String, Function)> = env::args()
         .skip(1)
         .map(|argument| {
             let (name, file) = argument.split_once('=').expect("NAME=SHARED_LIBRARY");
@@ -43,10 +43,10 @@ fn main() {
         .collect();
     let folds: Vec<_> = builds
         .iter()
-        .map(|&(_, entry)| {
+        .map(|&(_, function)| {
             move |input: &[u8], out: &mut [u8]| -> Outcome {
-                // SAFETY: it is the entry of a library.
-                unsafe { call(entry, input, out) }
+                // SAFETY: it is the function of a library.
+                unsafe { call(function, input, out) }
             }
         })
         .collect();

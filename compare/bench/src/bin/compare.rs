@@ -1,5 +1,6 @@
-//! Folds inputs with the oracles' programs and with each folder that is linked, and holds these to the original, or to the
-//! exact oracle where the two differ; the proved one to the plain one's zeros where the Rust leaves their sign open.
+//! Folds inputs with the oracles' programs and with each folder that is linked, with the sweep and without, and holds these
+//! to the original, or to the exact oracle where the two differ; the proved one to the plain one's zeros where the Rust
+//! leaves their sign open.
 //!
 //!     compare ORACLE EXACT COUNT SEED
 //!
@@ -9,9 +10,9 @@
 use bench::alike::Zeros;
 use bench::certain;
 use bench::families;
-use bench::folders::{self, Fold, Outcome};
+use bench::folders::{Entry, Fold, Outcome};
 use bench::held::{self, Difference, Paint, buffers};
-use bench::oracle::{Oracles, Said, Yardstick};
+use bench::oracle::{Held, Oracles};
 use bench::progress::Progress;
 use bench::shapes;
 use bench::shrink;
@@ -22,7 +23,6 @@ use std::process::ExitCode;
 use std::sync::mpsc::{Receiver, SyncSender, sync_channel};
 use std::thread;
 
-const PLAIN: &str = "plain";
 const BATCH: usize = 500;
 /// One input of so many is folded into the program's whole buffer too.
 const WIDE: usize = 8;
@@ -35,7 +35,8 @@ struct Case {
 /// The certain inputs, then those at random.
 fn cases(count: u64, seed: u64) -> impl Iterator<Item = Case> {
     let of = |family| move |input| Case { family, input };
-    let shapes = shapes::all().into_iter().map(|shape| shape.input);
+    let shapes = shapes::all().into_iter().chain(shapes::dead());
+    let shapes = shapes.map(|shape| shape.input);
     let shapes = shapes.chain(shapes::limits());
     let shapes = shapes.chain(certain::all()).chain(certain::rows());
     let shapes = shapes.map(of("certain"));
@@ -48,7 +49,7 @@ fn cases(count: u64, seed: u64) -> impl Iterator<Item = Case> {
 }
 
 /// Cases with what folders are held to, or the one that an oracle ends on.
-type Asked = Result<Vec<(Case, (Said, Yardstick))>, Case>;
+type Asked = Result<Vec<(Case, Held)>, Case>;
 
 /// Asks the oracles of all cases, batch by batch.
 fn ask(programs: &[String; 2], mut cases: impl Iterator<Item = Case>, sender: &SyncSender<Asked>) {
@@ -60,7 +61,7 @@ fn ask(programs: &[String; 2], mut cases: impl Iterator<Item = Case>, sender: &S
         }
         let inputs: Vec<&[u8]> = batch.iter().map(|case| &case.input[..]).collect();
         let asked = match oracles.ask(&inputs) {
-            Ok(said) => Ok(batch.into_iter().zip(said).collect()),
+            Ok(held) => Ok(batch.into_iter().zip(held).collect()),
             Err(at) => Err(batch.swap_remove(at)),
         };
         let ended = asked.is_err();
@@ -70,8 +71,37 @@ fn ask(programs: &[String; 2], mut cases: impl Iterator<Item = Case>, sender: &S
     }
 }
 
+/// A folder's function for an entry.
+#[derive(Clone, Copy)]
+struct Folder {
+    name: &'static str,
+    fold: Fold,
+    entry: Entry,
+    /// Whether it is held to the plain folder's zeros.
+    signed: bool,
+}
+
+/// All that are linked.
+fn folders() -> Vec<Folder> {
+    let entries = [
+        (Entry::Fold, "plain", "proved"),
+        (Entry::FoldSwept, "plain swept", "proved swept"),
+    ];
+    let both = entries.into_iter().flat_map(|(entry, plain, proved)| {
+        let folder = move |name, fold, signed| Folder {
+            name,
+            fold,
+            entry,
+            signed,
+        };
+        let proved = entry.proved().map(|fold| folder(proved, fold, true));
+        [Some(folder(plain, entry.plain(), false)), proved]
+    });
+    both.flatten().collect()
+}
+
 struct Comparison {
-    folders: Vec<(&'static str, Fold)>,
+    folders: Vec<Folder>,
     paint: Paint,
     tally: Tally,
     /// Inputs on which a folder differs, by folder.
@@ -80,34 +110,31 @@ struct Comparison {
 
 impl Comparison {
     fn new() -> Self {
-        let mut folders: Vec<(&str, Fold)> = vec![(PLAIN, folders::plain)];
-        folders.extend(folders::PROVED.map(|fold| ("proved", fold)));
         Comparison {
-            folders,
+            folders: folders(),
             paint: Paint::default(),
             tally: Tally::default(),
             differing: BTreeMap::new(),
         }
     }
 
-    fn add(&mut self, case: Case, said: &Said, yardstick: Yardstick) {
+    fn add(&mut self, case: Case, held: &Held) {
         let wide = self.tally.inputs % WIDE == 0;
-        self.tally
-            .add_input(case.family, &case.input, said, yardstick);
+        self.tally.add_input(case.family, &case.input, held);
+        let said = held.said(Entry::Fold);
         if said.zeros() == Zeros::Alike {
-            let signed = held::signed(&case.input, said);
+            let signed = held::signed(Entry::Fold, &case.input, held);
             self.tally
                 .add_zeros(said, signed.as_deref().unwrap_or(said));
         }
-        let buffers = buffers(said, wide);
-        for &buffer in &buffers {
-            self.tally.add_fold(said, buffer);
+        for entry in [Entry::Fold, Entry::FoldSwept] {
+            let said = held.said(entry);
+            for buffer in buffers(said, wide) {
+                self.tally.add_fold(entry, said, buffer);
+            }
         }
         for folder in 0..self.folders.len() {
-            if self
-                .difference(folder, &case.input, said, &buffers)
-                .is_some()
-            {
+            if self.difference(folder, &case.input, held, wide).is_some() {
                 let Case { family, ref input } = case;
                 let input = input.clone();
                 self.differing
@@ -123,16 +150,23 @@ impl Comparison {
         &mut self,
         folder: usize,
         input: &[u8],
-        said: &Said,
-        buffers: &[usize],
+        held: &Held,
+        wide: bool,
     ) -> Option<Difference> {
-        let (name, fold) = self.folders[folder];
-        let said = match name {
-            PLAIN => Cow::Borrowed(said),
-            _ => held::signed(input, said).unwrap_or(Cow::Borrowed(said)),
+        let Folder {
+            fold,
+            entry,
+            signed,
+            ..
+        } = self.folders[folder];
+        let said = held.said(entry);
+        let lengths = buffers(said, wide);
+        let said = match signed {
+            false => Cow::Borrowed(said),
+            true => held::signed(entry, input, held).unwrap_or(Cow::Borrowed(said)),
         };
-        let mut lengths = buffers.iter();
-        lengths.find_map(|&buffer| self.paint.difference(fold, input, &said, buffer))
+        let mut lengths = lengths.into_iter();
+        lengths.find_map(|buffer| self.paint.difference(fold, input, &said, buffer))
     }
 
     /// Prints, for each folder that differs, the smallest input found.
@@ -144,12 +178,12 @@ impl Comparison {
                 .min_by_key(|case| case.input.len())
                 .expect("one differs");
             let mut on = |input: &[u8]| {
-                let said = oracles.ask_one(input)?;
-                self.difference(folder, input, &said, &buffers(&said, true))
+                let held = oracles.ask_one(input)?;
+                self.difference(folder, input, &held, true)
             };
             let input = shrink::smallest(&shortest.input, |input| on(input).is_some());
             let difference = on(&input).expect("the smallest differs");
-            let name = self.folders[folder].0;
+            let name = self.folders[folder].name;
             println!(
                 "{name} differs on {} inputs of the last batch; the smallest found is from '{}':",
                 cases.len(),
@@ -166,11 +200,13 @@ impl Comparison {
 
     fn print(&self, seed: u64, progress: &Progress) {
         self.tally.print();
-        let names: Vec<&str> = self.folders.iter().map(|(name, _)| *name).collect();
+        let folders = self.folders.iter();
+        let folders = folders.filter(|folder| folder.entry == Entry::Fold);
+        let names: Vec<&str> = folders.map(|folder| folder.name).collect();
+        let [folds, swept] = self.tally.fold_counts();
         println!(
-            "{} inputs, {} folds by {} beside the oracles, seed {seed}, {} s: {}",
+            "{} inputs, {folds} folds and {swept} with the sweep by {} beside the oracles, seed {seed}, {} s: {}",
             self.tally.inputs,
-            self.tally.fold_count(),
             names.join(" and by "),
             progress.elapsed().as_secs(),
             if self.alike() {
@@ -247,8 +283,8 @@ fn hold(
                 return false;
             }
         };
-        for (case, (said, yardstick)) in batch {
-            comparison.add(case, &said, yardstick);
+        for (case, held) in batch {
+            comparison.add(case, &held);
         }
         progress.tell(comparison.tally.inputs, total);
         if !comparison.alike() {

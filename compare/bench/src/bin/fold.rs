@@ -1,8 +1,9 @@
 //! Prints the tables of times and of stack for whole folds.
-use bench::folders::{self, Fold};
+use bench::folders::{Entry, Fold};
 use bench::records::Graph;
 use bench::shapes::{self, NODES, Shape};
 use bench::stack;
+use bench::sweeps::Sweep;
 use bench::table::{Table, micros, ratio, whole};
 use bench::timing::{self, Effort, Times, micros as measured};
 use std::time::Duration;
@@ -29,6 +30,7 @@ fn main() {
     times("Graphs made to be slow", &shapes::hard());
     stages(&shapes::all());
     growths();
+    swept();
     peaks();
 }
 
@@ -66,18 +68,73 @@ fn times(heading: &str, shapes: &[Shape]) {
     table.print(&format!("{heading} (µs)"));
 }
 
+/// The mean of some times, in microseconds, where all were measured.
+fn mean(times: impl Iterator<Item = Duration>) -> Option<f64> {
+    let times: Option<Vec<f64>> = times.map(measured).collect();
+    times.map(|times| times.iter().sum::<f64>() / times.len() as f64)
+}
+
 /// The mean over some graphs.
 fn generated(shapes: &[Shape]) {
     let all = timing::fold_all(shapes, LITTLE_EFFORT);
-    let mean = |of: fn(&Times) -> Duration| -> Option<f64> {
-        let times: Option<Vec<f64>> = all.iter().map(|times| measured(of(times))).collect();
-        times.map(|times| times.iter().sum::<f64>() / times.len() as f64)
-    };
+    let mean = |of: fn(&Times) -> Duration| mean(all.iter().map(of));
     let mut table = Table::new(&[&["graphs"], &TIME_HEADS[..]].concat());
-    let name = format!("{} random graphs of 1,024 nodes, mean", shapes.len());
+    let name = generated_name(shapes);
     let cells = time_cells(mean(|t| t.proved), mean(|t| t.plain), mean(|t| t.original));
     table.row([vec![name], cells].concat());
     table.print("Generated graphs (µs)");
+}
+
+fn generated_name(shapes: &[Shape]) -> String {
+    format!("{} random graphs of 1,024 nodes, mean", shapes.len())
+}
+
+/// Folds with the sweep, beside those without it.
+fn swept() {
+    let heads = [
+        "graph",
+        "taken",
+        "proved",
+        "plain",
+        "proved / plain",
+        "proved fold",
+        "plain fold",
+        "proved / its fold",
+        "plain / its fold",
+    ];
+    let mut table = Table::new(&heads);
+    let shapes = [shapes::usual(), shapes::dead()].concat();
+    for (shape, times) in shapes.iter().zip(timing::swept_all(&shapes, EFFORT)) {
+        let facts = vec![shape.name.clone(), whole(taken(shape))];
+        table.row([facts, swept_cells(times.map(measured))].concat());
+    }
+    let shapes = shapes::generated(20);
+    let all = timing::swept_all(&shapes, LITTLE_EFFORT);
+    let taken = shapes.iter().map(taken).sum::<usize>() / shapes.len();
+    let means = [0, 1, 2, 3].map(|fold| mean(all.iter().map(|times| times[fold])));
+    let facts = vec![generated_name(&shapes), whole(taken)];
+    table.row([facts, swept_cells(means)].concat());
+    table.print("Folds with the sweep (µs)");
+}
+
+/// Of the proved and the plain folder with the sweep, and of their folds without it.
+fn swept_cells([proved, plain, proved_fold, plain_fold]: [Option<f64>; 4]) -> Vec<String> {
+    vec![
+        micros(proved),
+        micros(plain),
+        ratio(proved, plain),
+        micros(proved_fold),
+        micros(plain_fold),
+        ratio(proved, proved_fold),
+        ratio(plain, plain_fold),
+    ]
+}
+
+/// How many nodes the sweep takes.
+fn taken(shape: &Shape) -> usize {
+    let answers = [Entry::Fold, Entry::FoldSwept].map(|entry| timing::check_proved(entry, shape));
+    let [(_, folded), (_, swept)] = answers;
+    Sweep::of(&shape.input, &folded, &swept).taken()
 }
 
 /// Where the plain folder spends its time.
@@ -140,11 +197,13 @@ fn growths() {
 
 /// The stack that a fold uses.
 fn peaks() {
-    let shapes = [shapes::all(), shapes::generated(20)].concat();
+    let shapes = [shapes::all(), shapes::dead(), shapes::generated(20)].concat();
     let mut table = Table::new(&["folder", "least", "most"]);
     let folders = [
-        ("proved", folders::PROVED),
-        ("plain", Some(folders::plain as Fold)),
+        ("proved", Entry::Fold.proved()),
+        ("plain", Some(Entry::Fold.plain())),
+        ("proved, with the sweep", Entry::FoldSwept.proved()),
+        ("plain, with the sweep", Some(Entry::FoldSwept.plain())),
     ];
     for (name, fold) in folders {
         let peaks = fold.map(|fold| shapes.iter().map(|shape| peak(fold, shape)).collect());

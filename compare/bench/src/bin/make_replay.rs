@@ -9,8 +9,9 @@
 use bench::alike::normal_nans;
 use bench::certain;
 use bench::families;
+use bench::folders::Entry;
 use bench::held::{BUFFER, buffers, signed};
-use bench::oracle::{Oracles, Said};
+use bench::oracle::{Held, Oracles, Said};
 use bench::records::limit;
 use bench::shapes;
 use std::collections::BTreeMap;
@@ -33,8 +34,9 @@ fn room(family: &str, number: u8) -> usize {
 }
 
 /// A case, with a buffer of this length.
-fn case(input: &[u8], said: &Said, buffer: usize) -> Vec<u8> {
-    let said = signed(input, said).expect("the plain folder gives what the oracle says");
+fn case(input: &[u8], held: &Held, buffer: usize) -> Vec<u8> {
+    let said =
+        signed(Entry::Fold, input, held).expect("the plain folder gives what the oracle says");
     let (outcome, answer) = said.wanted(buffer);
     let numbers = [
         input.len(),
@@ -62,15 +64,16 @@ fn random_cases(oracles: &mut Oracles, cases: &mut Vec<Vec<u8>>) {
             .map(|index| families::input(SEED, index))
             .collect();
         let inputs: Vec<&[u8]> = batch.iter().map(|(_, input)| &input[..]).collect();
-        let said = oracles.ask(&inputs).expect("the oracles answer all");
-        for ((family, input), (said, _)) in batch.iter().zip(said) {
-            let lengths = buffers(&said, false);
+        let held = oracles.ask(&inputs).expect("the oracles answer all");
+        for ((family, input), held) in batch.iter().zip(held) {
+            let said = held.said(Entry::Fold);
+            let lengths = buffers(said, false);
             let buffer = lengths[cases.len() % lengths.len()];
             let number = said.wanted(buffer).0.number;
             let taken_before = buckets.entry((family, number)).or_default();
-            if *taken_before < room(family, number) && taken(input, &said) {
+            if *taken_before < room(family, number) && taken(input, said) {
                 *taken_before += 1;
-                cases.push(case(input, &said, buffer));
+                cases.push(case(input, &held, buffer));
             }
         }
     }
@@ -82,8 +85,8 @@ fn certain_cases(oracles: &mut Oracles, cases: &mut Vec<Vec<u8>>) {
     let limits = shapes::limits().into_iter();
     let limits = limits.filter(|input| input.len() != limit::INPUT);
     for input in limits.chain(certain::all()) {
-        let said = oracles.ask_one(&input).expect("the oracles answer all");
-        cases.push(case(&input, &said, BUFFER));
+        let held = oracles.ask_one(&input).expect("the oracles answer all");
+        cases.push(case(&input, &held, BUFFER));
     }
 }
 

@@ -1,4 +1,5 @@
 //! Inputs at random in families, each rich in something.
+mod dead;
 mod gates;
 mod limits;
 mod routes;
@@ -6,7 +7,7 @@ mod texts;
 
 use crate::damage::damaged;
 use crate::random;
-use crate::records::Graph;
+use crate::records::{Graph, flag};
 use crate::rng::Rng;
 
 pub struct Family {
@@ -16,12 +17,13 @@ pub struct Family {
     make: fn(&mut Rng) -> Vec<u8>,
 }
 
-const FAMILIES: [Family; 10] = [
-    family("mixed", 320, |rng| mixed(rng).bytes()),
-    family("gates", 210, |rng| gates::gates(rng).bytes()),
-    family("texts", 90, |rng| texts::texts(rng).bytes()),
-    family("annihilators", 70, |rng| gates::annihilators(rng).bytes()),
-    family("routes", 140, |rng| routes::routes(rng).bytes()),
+const FAMILIES: [Family; 11] = [
+    family("mixed", 280, |rng| labelled(rng, mixed)),
+    family("gates", 190, |rng| labelled(rng, gates::gates)),
+    family("texts", 80, |rng| labelled(rng, texts::texts)),
+    family("annihilators", 60, |rng| labelled(rng, gates::annihilators)),
+    family("routes", 120, |rng| labelled(rng, routes::routes)),
+    family("dead", 100, |rng| dead::dead(rng).bytes()),
     family("doubling", 12, |rng| routes::doubling(rng).bytes()),
     family("products", 5, |rng| routes::products(rng).bytes()),
     family("limits", 3, |rng| limits::limits(rng).bytes()),
@@ -49,6 +51,18 @@ pub fn input(seed: u64, index: u64) -> (&'static str, Vec<u8>) {
     unreachable!("the part is below the sum");
 }
 
+/// A graph, in three of ten with a label on some of its nodes.
+fn labelled(rng: &mut Rng, make: fn(&mut Rng) -> Graph) -> Vec<u8> {
+    let mut graph = make(rng);
+    if rng.percent(30) {
+        let chance = rng.pick(&[5, 20, 60]);
+        for (_, flags) in &mut graph.nodes {
+            *flags |= flag::LABEL * u8::from(rng.percent(chance));
+        }
+    }
+    graph.bytes()
+}
+
 /// Mostly small, at times up to the limits.
 fn mixed(rng: &mut Rng) -> Graph {
     let nodes = match rng.below(1_000) {
@@ -63,10 +77,11 @@ fn mixed(rng: &mut Rng) -> Graph {
 
 /// A small graph of some family.
 fn small(rng: &mut Rng) -> Graph {
-    match rng.below(8) {
+    match rng.below(9) {
         0..2 => gates::gates(rng),
         2..4 => routes::routes(rng),
         4 => texts::texts(rng),
+        5 => dead::dead(rng),
         _ => {
             let nodes = rng.between(1, 12);
             let graph = random::graph(rng, nodes);

@@ -181,7 +181,7 @@ fn source_port(rng: &mut Rng, graph: &Graph, source: u16) -> u8 {
 }
 
 /// The graph with its nodes or its wires in another order, or as it is.
-fn reordered(rng: &mut Rng, mut graph: Graph) -> Graph {
+pub fn reordered(rng: &mut Rng, mut graph: Graph) -> Graph {
     if rng.percent(50) {
         rng.shuffle(&mut graph.wires);
     }
@@ -193,6 +193,9 @@ fn reordered(rng: &mut Rng, mut graph: Graph) -> Graph {
     graph
 }
 
+/// Classes of the node that wires end at: one that never folds, and a gate, which a sweep takes with them.
+const LAST: [u8; 2] = [class::OTHER, class::MATH_ADD];
+
 /// Branches that double some times, up to far beyond any list, into nothing, one node, a cycle or a dead port.
 pub fn doubling(rng: &mut Rng) -> Graph {
     let times = match rng.below(10) {
@@ -201,7 +204,7 @@ pub fn doubling(rng: &mut Rng) -> Graph {
         _ => rng.between(25, 200),
     } as u16;
     let mut graph = shapes::doubling(times);
-    let last = graph.node(class::OTHER);
+    let last = graph.node(rng.pick(&LAST));
     for _ in 0..rng.below(3) {
         match rng.below(8) {
             0 => graph.wire(
@@ -225,7 +228,8 @@ pub fn products(rng: &mut Rng) -> Graph {
     let entries = rng.between(2, 120);
     let targets = rng.between(1, wanted / entries);
     let mut graph = Graph::default();
-    graph.nodes(class::OTHER, 2);
+    graph.node(class::OTHER);
+    graph.node(rng.pick(&LAST));
     let branch = graph.node(class::BRANCH);
     graph.row(class::BRANCH, [variant::UNWIRED, 0, 0]);
     for _ in 0..entries {

@@ -2,7 +2,7 @@
 //! answer's records.
 use crate::{listing, values};
 use std::sync::Arc;
-use wirescript::collections::HashMap;
+use wirescript::collections::{HashMap, HashSet};
 use wirescript::intern::{Sym, sym};
 use wirescript::ir::port_registry::WirePort;
 use wirescript::ir::{GateIO, Literal, Module, Node, NodeId, PortRef, Wire};
@@ -10,6 +10,8 @@ use wirescript_ir::semantics::{AnnihilatorKind, CertifiedTable, Value};
 
 pub struct Graph {
     pub classes: Vec<u8>,
+    /// The nodes that a label names.
+    pub labelled: HashSet<NodeId>,
     pub module: Module,
     pub table: CertifiedTable,
     /// The offset of each wire record.
@@ -19,6 +21,7 @@ pub struct Graph {
 /// The graph of an input that questions 1 to 8 and 12 accept.
 pub fn read(input: &[u8]) -> Graph {
     let mut classes = Vec::new();
+    let mut labelled = HashSet::default();
     let mut properties: Vec<HashMap<Sym, Literal>> = Vec::new();
     let mut module = Module::new("graph");
     let mut table = CertifiedTable::empty();
@@ -29,8 +32,12 @@ pub fn read(input: &[u8]) -> Graph {
         let body = &input[offset + 1..];
         let body_length = match kind {
             0x01 => {
+                if body[1] & listing::LABEL != 0 {
+                    labelled.insert(node_id(classes.len()));
+                }
                 classes.push(body[0]);
-                let nofold = (body[1] == 1).then_some((*sym::NO_FOLD, Literal::Bool(true)));
+                let nofold = (body[1] & listing::NOFOLD != 0)
+                    .then_some((*sym::NO_FOLD, Literal::Bool(true)));
                 properties.push(nofold.into_iter().collect());
                 2
             }
@@ -73,6 +80,7 @@ pub fn read(input: &[u8]) -> Graph {
     add_nodes(&mut module, &classes, properties);
     Graph {
         classes,
+        labelled,
         module,
         table,
         wire_offsets,

@@ -36,6 +36,10 @@ pub const VARIANTS: [InVariant; 9] = [
     InVariant::Str,
 ];
 
+/// Flags: the node is not folded; a label names it, so that no sweep takes it.
+pub const NOFOLD: u8 = 1;
+pub const LABEL: u8 = 2;
+
 pub const LITERAL: u8 = 1;
 pub const LOGICAL_AND: u8 = 12;
 
@@ -91,6 +95,11 @@ pub const CLASSES: [&str; LAST_CLASS as usize + 1] = [
     gc::BITWISE_BIT_COUNT,
     gc::MATH_SQRT,
 ];
+
+/// Classes from 6: what a sweep takes, beside Literals.
+pub fn gates() -> &'static [&'static str] {
+    &CLASSES[6..]
+}
 
 /// How many inputs a gate from class 6 has.
 pub fn input_count(class: u8) -> usize {

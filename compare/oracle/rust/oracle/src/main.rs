@@ -5,14 +5,14 @@
 //! apart by one space, numbers in decimal:
 //!
 //! ```text
-//! answer POPS WIRES HEX    the fold ends on the graph
-//! bag POPS WIRES HEX       so it does, but run on each wire alone, since the list of all wires
-//!                          outgrows the harness on the way
-//! diverges INDEX OFFSET    it never ends on a wire record, the first at fault: its number among
-//!                          the wire records from 0, and its offset in the graph
-//! dangles INDEX OFFSET     it leaves a wire at a removed node: the first wire record at fault
-//! invalid NUMBER OFFSET    the first of questions 1 to 8 and 12 that refuses the graph, and its
-//!                          place
+//! answer POPS WIRES HEX SWEPT  the fold ends on the graph
+//! bag POPS WIRES HEX SWEPT     so it does, but run on each wire alone, since the list of all wires
+//!                              outgrows the harness on the way
+//! diverges INDEX OFFSET        it never ends on a wire record, the first at fault: its number
+//!                              among the wire records from 0, and its offset in the graph
+//! dangles INDEX OFFSET         it leaves a wire at a removed node: the first wire record at fault
+//! invalid NUMBER OFFSET        the first of questions 1 to 8 and 12 that refuses the graph, and
+//!                              its place
 //! ```
 //!
 //! POPS are the nodes taken from the worklist, WIRES the rewritten wires (18446744073709551615
@@ -21,6 +21,9 @@
 //! 4096. `rewrite_wires` puts what a wire becomes in its place, so the wires of a `bag`, which are
 //! what each wire record becomes, one after the other, stand in its order too; but no single run of
 //! it has shown that order.
+//!
+//! SWEPT is the same once `sweep_dead_pure` has run on the folded graph. Where WIRES is over 4096 it
+//! does not run, and SWEPT is `-`.
 //!
 //! `oracle gates` reads gate cases of 100 bytes: class 6 to 42, and three operands of 33 bytes, a
 //! variant 0 to 8 and the value as in a record, filled with 0 to 32 bytes. Operands past the inputs
@@ -84,21 +87,29 @@ fn line(input: &[u8]) -> String {
     let folded = graph
         .table
         .as_certified(|| harness::fold(&mut graph.module));
-    let (word, total, wires) = match folded.rewriting {
-        Rewriting::Whole => (
-            "answer",
-            graph.module.wires.len() as u64,
-            &graph.module.wires,
-        ),
-        Rewriting::Apart { total, ref wires } => ("bag", total, wires),
+    let (word, total) = match folded.rewriting {
+        Rewriting::Whole => ("answer", graph.module.wires.len() as u64),
+        Rewriting::Apart { total, wires } => {
+            graph.module.wires = wires;
+            ("bag", total)
+        }
         Rewriting::Diverges(i) => return format!("diverges {i} {}", graph.wire_offsets[i]),
         Rewriting::Dangles(i) => return format!("dangles {i} {}", graph.wire_offsets[i]),
     };
     let mut answer = graph::known_and_fates(&graph.classes, &folded.known, &graph.module);
+    let mut swept = Vec::new();
     if total <= MAX_REWRITTEN {
-        graph::put_wires(wires, &mut answer);
+        graph::put_wires(&graph.module.wires, &mut answer);
+        harness::sweep(&mut graph.module, listing::gates(), &graph.labelled);
+        swept = graph::known_and_fates(&graph.classes, &folded.known, &graph.module);
+        graph::put_wires(&graph.module.wires, &mut swept);
     }
-    format!("{word} {} {total} {}", folded.pops, hex(&answer))
+    format!(
+        "{word} {} {total} {} {}",
+        folded.pops,
+        hex(&answer),
+        hex(&swept)
+    )
 }
 
 fn hex(bytes: &[u8]) -> String {

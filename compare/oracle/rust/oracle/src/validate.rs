@@ -1,6 +1,6 @@
 //! Questions 1 to 8 and 12 of document 01, written for the oracle alone: the input is cut into
 //! records one by one, and each record is asked its questions in their order, 12 right after 4.
-use crate::listing::{LAST_CLASS, is_order, row_length};
+use crate::listing::{LABEL, LAST_CLASS, NOFOLD, is_order, row_length};
 use crate::values::{TEXT, TEXT_KIND, is_text};
 use std::collections::HashSet;
 
@@ -101,7 +101,7 @@ fn body_length(kind: u8) -> Option<usize> {
 /// Question 4.
 fn every_byte_listed(kind: u8, body: &[u8]) -> bool {
     match (kind, body) {
-        (0x01, &[class, flags]) => class <= LAST_CLASS && flags <= 1,
+        (0x01, &[class, flags]) => class <= LAST_CLASS && flags <= NOFOLD | LABEL,
         (0x02, &[_, _, source_port, _, _, target_port]) => source_port <= 9 && target_port <= 9,
         (0x05, &[_, _, port, value]) => port <= 10 && value <= 1,
         (0x03..=0x09, &[_, _, port, ..]) => port <= 10,

@@ -1,5 +1,6 @@
 //! Stands for the catalog, which docs/src does not hold: the types that `self_firing` of
-//! lower/fold/mod.rs needs to compile. Only a sweep calls it, and the sweeps are left out.
+//! lower/fold/mod.rs needs to compile. Only the sweep of exec chains calls it, which
+//! is left out.
 pub mod calls {
     use crate::collections::HashMap;
     use crate::ir::Type;

@@ -1,12 +1,12 @@
-//! Harness, no part of the Rust: runs `fold_certified_constants` and takes out what it found. A
-//! child module of lower/fold/mod.rs reaches its private items.
+//! Harness, no part of the Rust: runs `fold_certified_constants` and takes out what it found, and
+//! runs `sweep_dead_pure`. A child module of lower/fold/mod.rs reaches its private items.
 //!
 //! `rewrite_wires` never ends on some graphs, and on some its list outgrows every memory before it
 //! ends. `may_pass` and `may_hold` stop it there. It treats each wire by itself and puts what the
 //! wire becomes in its place, so each wire is then given to it alone, a pass at a time: a wire that
 //! comes back to itself is one on which it never ends.
-use super::{PlanAction, Value, fold_certified_constants, rewrite_wires};
-use crate::collections::HashMap;
+use super::{PlanAction, Value, fold_certified_constants, rewrite_wires, sweep_dead_pure};
+use crate::collections::{HashMap, HashSet};
 use crate::ir::{Module, NodeId, PortRef, Wire};
 use std::cell::{Cell, RefCell};
 
@@ -42,6 +42,7 @@ thread_local! {
     static KEPT: RefCell<Option<(Known, Plan, Vec<Wire>)>> = const { RefCell::new(None) };
     static PASSES_LEFT: Cell<usize> = const { Cell::new(0) };
     static STOPPED: Cell<bool> = const { Cell::new(false) };
+    static PURE: Cell<&'static [&'static str]> = const { Cell::new(&[]) };
 }
 
 /// `fold_certified_constants` through `apply`.
@@ -64,6 +65,17 @@ pub fn fold(root: &mut Module) -> Folded {
         pops: POPS.get(),
         rewriting,
     }
+}
+
+/// `sweep_dead_pure`, with these classes in place of those of `is_pure_expr`.
+pub fn sweep(root: &mut Module, pure: &'static [&'static str], protected: &HashSet<NodeId>) {
+    PURE.set(pure);
+    sweep_dead_pure(root, protected);
+}
+
+/// Asked of each node's class, in place of `is_pure_expr`.
+pub(super) fn is_pure(class: &str) -> bool {
+    PURE.get().contains(&class)
 }
 
 /// Called for each node taken from the worklist.
