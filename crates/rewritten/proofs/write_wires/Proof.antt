@@ -7,7 +7,7 @@ use Rattle.rewritten.proofs.write_wires.Statement.{statement}
 use Rattle.rewritten.proofs.write_wires.Tie as tie
 
 returns : tie.Need-returns
-returns c = record { law = λ own kinds words pops S. refuse-many S (c .before .before .pre .rewrote .counted) (c .if1 .taken) }
+returns c = record { law = λ own kinds words pops S. refuse-many S (c .before .before .pre .rewrote .counted) (omega (arith, c .if1 .taken)) }
 
 wires-requires : tie.Need-wires-requires
 wires-requires c κs = c .before .before .pre .rewrote .worked .settled .accepts
