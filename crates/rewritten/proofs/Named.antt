@@ -16,7 +16,7 @@ use Rattle.records.specs.Access.{noWire, Named, Bounded}
 use Rattle.model.specs.Maps.{Map, All, keep}
 use Rattle.model.specs.Inputs.{isPort}
 use Rattle.model.specs.Offer.{PlanAction, BecomeLiteral, ShortCircuit, Truncate}
-use Rattle.model.specs.Rewrite.{both, collect, arrive, reach, Source, cycles, drops, from, leave, follow, joined, rewriteWire, rewriteWires}
+use Rattle.model.specs.Rewrite.{collect, arrive, reach, Source, cycles, drops, from, leave, follow, joined, rewriteWire, rewriteWires}
 use Rattle.model.proofs.Maps.{none-some}
 use Rattle.model.proofs.Lists.{all-map, all-keep}
 use Rattle.model.proofs.CleanWires.{Gives, both-gives}

@@ -21,7 +21,7 @@ const ENDLESS: u8 = 9;
 const TOO_MANY: u8 = 10;
 
 // How many bytes the records of 4,096 wires have.
-pub const WIRE_BYTES: usize = 28672;
+pub const WIRE_BYTES: usize = wire_records::SIZE * limit::WIRES;
 
 // Question 10 of the rewritten wires, and their records. `count` is how many there are, 4,097 for more than 4,096.
 fn write_wires(

@@ -3,19 +3,18 @@ use mathlib.Core.Path.{_≡_, sym, ap, ap₂, _∙_, fun-ext}
 use mathlib.Core.Bool.{Bool, true, false, not}
 use mathlib.Core.Option.{Option, none, some}
 use mathlib.Core.List.{List, [], _∷_, _++_}
-use Prim.Native.Nat.{ℕ, zero, suc, _*_, _≤_}
+use Prim.Native.Nat.{ℕ, zero, suc, _≤_}
 use native.Mathlib.Omega.{arith}
 use lib.ListN.{length, length-append}
 use Rattle.ir.specs.declared.Wire.{Wire}
 use Rattle.encoding.specs.Numbers.{bytesOf}
 use Rattle.encoding.specs.Wires.{wireBytes}
-use Rattle.graph.specs.Graph.{Graph, member}
+use Rattle.graph.specs.Graph.{Graph}
 use Rattle.model.specs.Maps.{keep, upTo, All}
 use Rattle.model.specs.Inputs.{size}
 use Rattle.model.specs.Offer.{PlanAction, BecomeLiteral, ShortCircuit, Truncate}
 use Rattle.model.specs.Trial.{State}
 use Rattle.model.specs.Answer.{each, knownBytes, fateBytes, answer}
-use Rattle.model.specs.Rewrite.{rewriteWires}
 use Rattle.model.specs.Demands.{foldOf, planOf, Clean}
 use Rattle.model.proofs.Lists.{length-keep, count-length, all-weaken, all-keep}
 use Rattle.model.proofs.Each.{each-size, wires-size}
@@ -26,7 +25,7 @@ use Rattle.sweep.specs.Removals.{Left, leftBy, wiresLeft, AnyOrder}
 use Rattle.sweep.specs.Swept.{sweptFate, sweptAnswer, takenOf, sweptBytes}
 use Rattle.sweep.proofs.Marks.{eligible-within}
 use Rattle.sweep.proofs.Orders.{any-order}
-use Rattle.swept.specs.Demands.{RunOf, runBytes, SameTaken, AnyOrderOf, AnyRun, CleanLeft}
+use Rattle.swept.specs.Demands.{RunOf, runBytes, AnyOrderOf, AnyRun, CleanLeft}
 
 -- ---- no answer is longer than without the stage
 

@@ -1,6 +1,7 @@
 -- `sweep::sweep_dead_pure` meets its contract.
 use native.Mathlib.Omega.{arith}
 use mathlib.Core.Path.{refl}
+use Rattle.ir.specs.Limits.{maxNodes}
 use Rattle.sweep.proofs.Sweeps.{queued-start, sweep-start, sweep-ends}
 use Rattle.sweep.proofs.sweep_dead_pure.Statement.{statement}
 use Rattle.sweep.proofs.sweep_dead_pure.Tie as tie
@@ -12,7 +13,7 @@ release-nodes-requires : tie.Need-release-nodes-requires
 release-nodes-requires c κs =
     let s = c .before .before .before .before .before .before .before in
     let d = c .before .before .before .count-wires .ensures in
-    (s .pre .0 .few-nodes, λ n l. omega (arith, d .1 n (omega (arith, s .pre .0 .few-nodes))), queued-start 1024 refl (d .0) (λ n l. omega (arith, d .1 n l)))
+    (s .pre .0 .few-nodes, λ n l. omega (arith, d .1 n (omega (arith, s .pre .0 .few-nodes))), queued-start maxNodes refl (d .0) (λ n l. omega (arith, d .1 n l)))
 
 returns : tie.Need-returns
 returns c =

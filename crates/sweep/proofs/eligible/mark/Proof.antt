@@ -3,6 +3,7 @@ use Prim.Native.Nat.{_-_}
 use native.Mathlib.Omega.{arith}
 use mathlib.Core.Path.{refl}
 use denote.Ref.{now}
+use Rattle.ir.specs.Limits.{maxNodes}
 use Rattle.graph.specs.Decode.{graphOf}
 use Rattle.sweep.proofs.Marks.{Marking, marking-start, marking-more, marking-ends}
 use Rattle.sweep.proofs.eligible.mark.Statement.{statement}
@@ -17,7 +18,7 @@ abbrev μ-loop : tie.MeasureT-loop
     nodes - n
 
 loop-holds : tie.Need-loop-holds Inv-loop μ-loop
-loop-holds c = marking-start (graphOf (now (c .before .before .args .input))) (now (c .before .before .args .actions)) 1024 refl
+loop-holds c = marking-start (graphOf (now (c .before .before .args .input))) (now (c .before .before .args .actions)) maxNodes refl
 
 node-eligible-requires : tie.Need-node-eligible-requires Inv-loop μ-loop
 node-eligible-requires c κs =

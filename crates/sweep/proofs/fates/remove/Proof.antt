@@ -4,6 +4,7 @@ use native.Mathlib.Omega.{arith}
 use mathlib.Core.Path.{refl}
 use borrow.Author.Needs.{needs}
 use denote.Ref.{now}
+use Rattle.ir.specs.Limits.{maxNodes}
 use Rattle.sweep.proofs.Marks.{Removing, removing-start, removing-more}
 use Rattle.sweep.proofs.fates.remove.Statement.{statement}
 use Rattle.sweep.proofs.fates.remove.Tie as tie
@@ -14,10 +15,10 @@ Inv-loop taken actions swept₀ n₀ swept n =
 
 abbrev μ-loop : tie.MeasureT-loop
 μ-loop taken actions swept₀ n₀ swept n =
-    1024 - n
+    maxNodes - n
 
 loop-holds : tie.Need-loop-holds Inv-loop μ-loop
-loop-holds c = removing-start (now (c .before .args .taken)) (now (c .before .args .actions)) 1024 refl
+loop-holds c = removing-start (now (c .before .args .taken)) (now (c .before .args .actions)) maxNodes refl
 
 element-copy-out-action-of : tie.Need-element-copy-out-action-of Inv-loop μ-loop
 element-copy-out-action-of c = c .loop-test .taken
