@@ -189,7 +189,7 @@ fn fold_input(input: &[u8], out: &mut [u8]) -> Outcome
 }
 
 // Folds the graph that the input says, and takes what feeds nothing. The answer is written into `out`; a refusal leaves it as it was.
-pub fn fold(input: &[u8], out: &mut [u8]) -> Outcome
+pub fn fold_swept(input: &[u8], out: &mut [u8]) -> Outcome
     ensures result { λ r. ⌜ r ≡ caseOf (sweptOutcome (now (input .entry)) (length (now (out .entry)))) ⌝ }
     ensures numbers { λ r. ⌜ numbers r ≡ numbersOf (sweptOutcome (now (input .entry)) (length (now (out .entry)))) ⌝ }
     ensures buffer { λ r. ⌜ now (out .exit) ≡ written (sweptOutcome (now (input .entry)) (length (now (out .entry)))) (now (out .entry)) ⌝ }
@@ -214,7 +214,7 @@ pub fn fold(input: &[u8], out: &mut [u8]) -> Outcome
     fold_input(input, out)
 }
 
-// `fold` for other languages: the refusal's number, or 0, and document 01's place, length and pops through the pointers.
+// `fold_swept` for other languages: the refusal's number, or 0, and document 01's place, length and pops through the pointers.
 #[no_mangle]
 pub extern "C" fn mezburiko_fold_swept(
     input: &[u8],
@@ -243,7 +243,7 @@ pub extern "C" fn mezburiko_fold_swept(
     ensures enough { λ r. ⌜ (maxAnswer ≤ ListN.length (now (out .entry)) → r ≡ 10 → TooManyWires (graphOf (now (input .entry)))) ⌝ }
     ensures waiting { λ _. ⌜ ((k : ℕ) → Waiting (graphOf (now (input .entry))) (after (literals (graphOf (now (input .entry)))) (graphOf (now (input .entry))) k)) ⌝ }
 {
-    match fold(input, out) {
+    match fold_swept(input, out) {
         Outcome::Folded {
             length: bytes,
             pops: turns,
