@@ -1,4 +1,6 @@
 // The gates Add, Subtract, Multiply, Divide and Modulo: on whole numbers, on floats and, part by part, on Vectors.
+#![tactic(auto)]
+
 ghost use Rattle.std.specs.Prelude.{◌≡◌};
 ghost use Rattle.conversions.specs.Conversions.{scalar_of};
 ghost use Rattle.arithmetic.specs.Arithmetic.{whole_op, float_op, mixed_signs, float_math, floats_math, as_real, numbers_math, spread_scalar, is_vector, spread, finite_vector, vector_math, math_of};
@@ -7,7 +9,7 @@ use conversions::MathIn;
 use value::{Operand, OptionValue, Value};
 use whole::{OptionFloat, OptionInt};
 
-#[derive(Drop)]
+#[derive(Clone, Copy)]
 pub enum MathOp {
     Add,
     Subtract,
@@ -17,7 +19,7 @@ pub enum MathOp {
 }
 
 // The parts of a Vector, if there are any.
-#[derive(Drop)]
+#[derive(Clone, Copy)]
 pub enum OptionVector {
     None,
     Some { x: f64, y: f64, z: f64 },

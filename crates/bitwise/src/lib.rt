@@ -1,4 +1,6 @@
 // The bitwise gates, shifts and BitCount.
+#![tactic(auto)]
+
 ghost use Rattle.std.specs.Prelude.{◌≡◌};
 ghost use Rattle.bitwise.specs.Bitwise.{bitwise_and_of, bitwise_or_of, bitwise_xor_of, bitwise_not_of, bitwise_nand_of, bitwise_nor_of, bitwise_shift_left_of, bitwise_shift_right_of, bitwise_bit_count_of};
 

@@ -1,4 +1,6 @@
 // Equality and order of two operands, and the logical gates.
+#![tactic(auto)]
+
 ghost use Rattle.std.specs.Prelude.{◌≡◌, cond};
 ghost use Rattle.std.specs.Float.Ieee as Ieee;
 ghost use Rattle.std.specs.Int.Signed.{lt_z, le_z};
@@ -12,7 +14,7 @@ use ieee::sanitize;
 use value::{Operand, OptionValue, Value};
 use whole::{OptionFloat, OptionInt, int_as_f64, int_of_bool};
 
-#[derive(Drop)]
+#[derive(Clone, Copy)]
 pub enum OptionBool {
     None,
     Some(bool),

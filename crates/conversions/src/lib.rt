@@ -1,4 +1,6 @@
 // How the gates read an operand: as a truth, a whole number or a float.
+#![tactic(auto)]
+
 ghost use Rattle.std.specs.Prelude.{◌≡◌};
 ghost use Rattle.conversions.specs.Conversions.{truthy_value, truthy_of, scalar_value, scalar_of, math_in_value, math_in_of, as_float_value, as_float_of, as_int_value, as_int_of, only_int_value, only_int_of, given_int, float_of_bool};
 
@@ -6,7 +8,7 @@ use value::{Operand, OptionValue, Value};
 use whole::{OptionFloat, OptionInt};
 
 // How Add to Modulo read an operand: not at all, as a whole number or as a float.
-#[derive(Drop)]
+#[derive(Clone, Copy)]
 pub enum MathIn {
     None,
     I(i64),

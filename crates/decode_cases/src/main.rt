@@ -1,5 +1,7 @@
 // Decodes stored inputs and compares the answers with the stored ones. A case is eight numbers of eight bytes, the input's length, the
 // refusal's number and place, and the counts of nodes, wires, properties, rows and annihilators, and then the input.
+#![tactic(auto)]
+
 ghost use Rattle.std.specs.Prelude.{◌+◌, ◌≤◌, ◌<◌, length};
 
 use encoding::numbers;
@@ -7,7 +9,7 @@ use graph::{Decoded, SLOTS, refusals};
 
 const HEAD: usize = 64;
 
-#[derive(Drop)]
+#[derive(Clone, Copy)]
 struct Step {
     next: usize,
     differs: u64,

@@ -1,4 +1,6 @@
 // The rewritten wires, written into the caller's buffer.
+#![tactic(auto)]
+
 ghost use Rattle.std.specs.Prelude.{◌≡◌, List, ℕ, ◌+◌, ◌-◌, ◌*◌, ◌≤◌, ◌<◌, length, get_or};
 ghost use Rattle.ir.specs.Limits.{max_nodes, max_wires};
 ghost use Rattle.encoding.specs.Numbers.{Written};
@@ -25,7 +27,7 @@ fn wide(x: u16) -> usize
 }
 
 // A wire on the way, and the height of the stack.
-#[derive(Drop)]
+#[derive(Clone, Copy)]
 struct Walk {
     wire: usize,
     top: usize,

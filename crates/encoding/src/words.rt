@@ -7,7 +7,7 @@ use ir::kind;
 use value::Value;
 
 // The words that hold a value; those that it does not need are 0.
-#[derive(Drop)]
+#[derive(Clone, Copy)]
 pub struct Words {
     pub a: u64,
     pub b: u64,

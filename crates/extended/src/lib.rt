@@ -1,4 +1,6 @@
 // The extended math gates: Abs, Min, Max, Clamp, Sign, Negate, ModuloFloored, Round, Floor, Ceil and MathSqrt.
+#![tactic(auto)]
+
 ghost use Rattle.std.specs.Prelude.{◌≡◌, cond};
 ghost use Rattle.std.specs.Float.Ieee.{is_nan};
 ghost use Rattle.extended.specs.Extended.{given_finite, abs_float, abs_of, min_floats, min_operands, max_floats, max_operands, clamp_int, clamp_ints, clamp_float, clamp_floats, clamp_of, sign_float, sign_of, negate_of, modulo_floored, modulo_floored_of, round_gate, floor_gate, ceil_gate, sqrt_gate};

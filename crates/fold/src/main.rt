@@ -1,4 +1,6 @@
 // Folds the graph that standard input says, as raw bytes, and writes the answer, or one line that says the refusal, to standard output.
+#![tactic(auto)]
+
 use folding::Outcome;
 use libc::{STDERR_FILENO, STDIN_FILENO, STDOUT_FILENO};
 

@@ -1,4 +1,6 @@
 // The whole fold: a graph's records in, the answer's records out.
+#![tactic(auto)]
+
 ghost use Rattle.std.specs.Prelude.{◌≡◌, List, ℕ, ◌+◌, ◌*◌, ◌≤◌, leb, length, get_or, take, drop};
 ghost use Rattle.std.proofs.Math.ListN as ListN;
 ghost use Rattle.ir.specs.Limits.{max_nodes, max_wires, max_answer};
@@ -22,7 +24,7 @@ use rewrite::Rewriting;
 use state::WORDS;
 
 // The answer's length and the pops, or a refusal's number and place.
-#[derive(Drop)]
+#[derive(Clone, Copy)]
 pub enum Outcome {
     Folded { length: usize, pops: usize },
     Refused { number: u8, place: usize },

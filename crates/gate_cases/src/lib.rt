@@ -1,4 +1,6 @@
 // Gate cases as bytes, for runs beside the Rust; the remainder and the root of floats, for runs beside the C library's.
+#![tactic(auto)]
+
 ghost use Rattle.std.specs.Prelude.{◌≡◌, ◌+◌, ◌≤◌, length};
 ghost use Rattle.std.specs.Float.Ieee as Ieee;
 ghost use Rattle.std.specs.Float.{binary64};

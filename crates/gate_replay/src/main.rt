@@ -1,5 +1,7 @@
 // Replays stored gate cases, each 100 bytes on standard input with the 33 bytes that the Rust gives, and says how many
 // it ran and how many differ.
+#![tactic(auto)]
+
 ghost use Rattle.std.specs.Prelude.{◌≡◌, true, ◌≤◌};
 ghost use Rattle.gate_cases.specs.Cases.{given_of, answer_bytes};
 

@@ -1,24 +1,26 @@
 // What document 01's records say: the types of the graph's lists, questions 2 to 8 and 12 of one record, and what it adds.
+#![tactic(auto)]
+
 pub mod question;
 pub mod refusals;
 pub mod scan;
 
 use value::Value;
 
-#[derive(Drop)]
+#[derive(Clone, Copy)]
 pub struct Node {
     pub class: u8,
     pub flags: u8,
 }
 
-#[derive(Drop)]
+#[derive(Clone, Copy)]
 pub struct Property {
     pub node_id: usize,
     pub port: u8,
     pub value: Value,
 }
 
-#[derive(Drop)]
+#[derive(Clone, Copy)]
 pub struct Row {
     pub class: u8,
     pub first: u8,
@@ -27,7 +29,7 @@ pub struct Row {
 }
 
 // How many records of each role an input has, how many of its properties are texts, and which annihilators.
-#[derive(Drop)]
+#[derive(Clone, Copy)]
 pub struct Counts {
     pub nodes: usize,
     pub wires: usize,
@@ -40,7 +42,7 @@ pub struct Counts {
 }
 
 // The first question that is answered with no. From the second on it holds the record's offset.
-#[derive(Drop)]
+#[derive(Clone, Copy)]
 pub enum Refusal {
     TooLong,
     UnknownKind(usize),
@@ -53,13 +55,13 @@ pub enum Refusal {
     TooMany(usize),
 }
 
-#[derive(Drop)]
+#[derive(Clone, Copy)]
 pub enum OptionRefusal {
     None,
     Some(Refusal),
 }
 
-#[derive(Drop)]
+#[derive(Clone, Copy)]
 pub enum Decoded {
     Accepted(Counts),
     Refused(Refusal),

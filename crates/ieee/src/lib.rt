@@ -1,4 +1,6 @@
 // IEEE 754 binary64: the bits, the sign and the parts of a float, rounding to an integer, finiteness, and the remainder.
+#![tactic(auto)]
+
 
 ghost use Rattle.std.specs.Prelude.{◌≡◌, ◌*◌, ◌%◌, ◌^◌, ◌<◌, true, false};
 ghost use Rattle.std.specs.Float.Ieee as Ieee;
@@ -57,7 +59,7 @@ pub fn is_sign_negative(x: f64) -> bool
 }
 
 // How a magnitude is rounded to an integer: toward zero, away from zero, or to nearest with ties away from zero.
-#[derive(Drop)]
+#[derive(Clone, Copy)]
 pub enum Direction {
     TowardZero,
     AwayFromZero,
@@ -157,7 +159,7 @@ pub fn sanitize(x: f64) -> f64
 // ---- Floats as whole numbers, and the remainder
 
 // A finite float: significand * 2^exponent of the smallest values.
-#[derive(Drop)]
+#[derive(Clone, Copy)]
 pub struct Parts {
     pub negative: bool,
     pub significand: u64,

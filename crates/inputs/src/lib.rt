@@ -1,4 +1,6 @@
 // What the input ports of a node have, by what is known: lower/fold/mod.rs from `resolve_input` to `resolve_condition`.
+#![tactic(auto)]
+
 ghost use Rattle.std.specs.Prelude.{◌≡◌, true, false, ◌+◌, ◌<◌, ◌≤◌, length, get_or};
 ghost use Rattle.std.proofs.Math.Option.{Option};
 ghost use Rattle.ir.specs.Classes.{class_count};
@@ -28,14 +30,14 @@ use table::Rows;
 use value::{Operand, OptionValue, Value};
 
 // The wires into a port: none, one with its number, or more.
-#[derive(Drop)]
+#[derive(Clone, Copy)]
 pub enum Feeds {
     None,
     One(u16),
     Many,
 }
 
-#[derive(Drop)]
+#[derive(Clone, Copy)]
 pub enum OptionBool {
     None,
     Some(bool),
@@ -174,7 +176,7 @@ fn read_word(kind: u8, s: &[u8], at: usize) -> u64
 }
 
 // What a port has: its variant, of a scalar the word that holds it, and of one with a single wire the node that the wire starts at.
-#[derive(Drop)]
+#[derive(Clone, Copy)]
 pub struct Located {
     pub variant: u8,
     pub word: u64,
@@ -183,7 +185,7 @@ pub struct Located {
 }
 
 // What a lookup finds at a port.
-#[derive(Drop)]
+#[derive(Clone, Copy)]
 pub enum Lookup {
     Unresolved,
     Found(Located),

@@ -1,5 +1,7 @@
 // What document 01 lists, in one place: classes, record kinds, ports, variants, flag bits and limits. Each table here
 // is the one in specs/; later layers take every such number from this crate.
+#![tactic(auto)]
+
 ghost use Rattle.std.specs.Prelude.{◌≡◌};
 
 pub mod class;
@@ -10,20 +12,20 @@ pub mod port;
 pub mod variant;
 
 // The port of a node, and a wire from one to another.
-#[derive(Drop)]
+#[derive(Clone, Copy)]
 pub struct PortRef {
     pub node_id: usize,
     pub port: u8,
 }
 
-#[derive(Drop)]
+#[derive(Clone, Copy)]
 pub struct Wire {
     pub source: PortRef,
     pub target: PortRef,
 }
 
 // How the nodes of a class fold. Unary, Binary and Ternary are the gates of one, two and three inputs.
-#[derive(Drop)]
+#[derive(Clone, Copy)]
 pub enum Folding {
     Never,
     Literal,
@@ -36,7 +38,7 @@ pub enum Folding {
 }
 
 // What a record of a kind says.
-#[derive(Drop)]
+#[derive(Clone, Copy)]
 pub enum Role {
     Unlisted,
     Node,

@@ -1,5 +1,7 @@
 // From an input's bytes to known values and plan: decoding, the indexes of its rows and wires, and the worklist. `own` has what the free inputs are
 // set to: nothing, false or true (`resolve::SET_NOTHING`, `SET_FALSE`, `SET_TRUE`).
+#![tactic(auto)]
+
 ghost use Rattle.graph.specs.Decode.{graph_of};
 ghost use Rattle.graph.specs.Index.{Indexed};
 ghost use Rattle.records.specs.Access.{Accepts};
@@ -14,7 +16,7 @@ use records::access;
 use state::WORDS;
 
 // What comes of an input: the counts of an accepted graph and the pops of its worklist, or a refusal's number and place.
-#[derive(Drop)]
+#[derive(Clone, Copy)]
 pub enum Propagated {
     Settled { counts: Counts, pops: usize },
     Refused { number: u8, place: usize },

@@ -1,4 +1,6 @@
 // Document 01's records: decoding of an input by questions 1 to 8 and 12, and access to the accepted graph.
+#![tactic(auto)]
+
 ghost use Rattle.std.specs.Prelude.{◌≡◌};
 ghost use Rattle.graph.specs.Decode.{decode as decodeOf, graph_of};
 ghost use Rattle.graph.specs.Refusals.{report_of, reported};

@@ -10,7 +10,7 @@ use graph::{Counts, SLOTS, question, scan};
 use ir::{Role, kind};
 
 // The offset past a run, and the counts with it.
-#[derive(Drop)]
+#[derive(Clone, Copy)]
 pub struct Run {
     pub at: usize,
     pub counts: Counts,

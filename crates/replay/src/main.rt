@@ -1,5 +1,7 @@
 // Replays stored folds, each with what the Rust gives, and says how many it ran and how many differ. A case on standard input is six
 // numbers of eight bytes (the input's length, the buffer's, and the outcome's number, place, length and pops), then the input and the answer.
+#![tactic(auto)]
+
 ghost use Rattle.std.specs.Prelude.{◌≡◌, ◌≤◌};
 ghost use Rattle.std.proofs.Math.ListN as ListN;
 ghost use Rattle.model.specs.Outcome.{numbers_of, written, outcome};

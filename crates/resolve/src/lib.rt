@@ -1,4 +1,6 @@
 // The trial of one node: what its inputs have by what is known, and the value or the plan that this gives it.
+#![tactic(auto)]
+
 mod gates;
 
 ghost use Rattle.std.specs.Prelude.{◌≡◌, cond, ℕ, ◌≤◌, ◌<◌, get_or};

@@ -22,7 +22,7 @@ const UNSEEN: u16 = 4099;
 const COUNT_LIMIT: u16 = 4097;
 
 // How far a walk along a chain came: the code of the wire where it stopped, 0 at the end, and the sum of the counts before that wire.
-#[derive(Drop)]
+#[derive(Clone, Copy)]
 pub struct Reached {
     pub code: u16,
     pub sum: u16,

@@ -1,5 +1,7 @@
 // The rewriting of wires by the plan: where each wire's source comes to, how many unplanned targets each wire leads to, and how many wires there
 // are at the end.
+#![tactic(auto)]
+
 ghost use Rattle.std.specs.Prelude.{◌≡◌, true, false, ℕ, ◌<◌, ◌≤◌, get_or};
 ghost use Rattle.ir.specs.Limits.{max_nodes};
 ghost use Rattle.records.specs.Access.{wires_of, Bounded};
@@ -18,7 +20,7 @@ use ir::{PortRef, limit};
 pub const NO_COUNT: u16 = 4098;
 
 // Where a wire's source comes to.
-#[derive(Drop)]
+#[derive(Clone, Copy)]
 pub enum Origin {
     Cycles,
     Drops,
@@ -27,7 +29,7 @@ pub enum Origin {
 
 // What the rewriting of all wires comes to: the number of the first wire whose rewriting does not end, or how many wires there are at the end,
 // 4097 for more than 4096.
-#[derive(Drop)]
+#[derive(Clone, Copy)]
 pub enum Rewriting {
     Endless { index: usize },
     Wires { count: usize },

@@ -1,4 +1,6 @@
 // The rewritten wires of a graph whose worklist is done, as records at the front of a lent buffer.
+#![tactic(auto)]
+
 ghost use Rattle.std.specs.Prelude.{List, ℕ};
 ghost use Rattle.rewritten.specs.Rewritten.{Given, Rewrites, Countable, Keeps};
 
@@ -10,7 +12,7 @@ use records::access;
 use rewrite::Rewriting;
 
 // How many wires there are, or a refusal's number and place.
-#[derive(Drop)]
+#[derive(Clone, Copy)]
 pub enum Rewritten {
     Wires { count: usize },
     Refused { number: u8, place: usize },

@@ -1,4 +1,6 @@
 // Square roots: of a whole number with what is over, and of a float.
+#![tactic(auto)]
+
 ghost use Rattle.std.specs.Prelude.{◌≡◌, ◌+◌, ◌*◌, ◌/◌, ◌^◌, ◌≤◌, ◌<◌};
 ghost use Rattle.root.specs.WholeRoot.{IsWholeRoot, OnlyWholeRoot, whole_root_of};
 ghost use Rattle.root.specs.Steps.{Near};
@@ -6,7 +8,7 @@ ghost use Rattle.root.specs.Steps.{Near};
 pub mod float;
 
 // The whole root of a number, and the number less its square.
-#[derive(Drop)]
+#[derive(Clone, Copy)]
 pub struct WholeRoot {
     pub root: u64,
     pub remainder: u64,

@@ -1,4 +1,6 @@
 // What a gate gives, by its class and operands.
+#![tactic(auto)]
+
 ghost use Rattle.std.specs.Prelude.{◌≡◌, ◌≤◌};
 ghost use Rattle.semantics.specs.Eval.{eval_of};
 ghost use Rattle.semantics.specs.Starred.{starred, AllHold};

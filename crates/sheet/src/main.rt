@@ -1,4 +1,6 @@
 // Writes the service sheet of the graph that standard input says, as raw bytes, or one line that says the refusal, to standard output.
+#![tactic(auto)]
+
 use folding::Outcome;
 use ir::limit;
 use libc::{STDERR_FILENO, STDIN_FILENO, STDOUT_FILENO};

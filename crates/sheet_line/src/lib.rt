@@ -1,4 +1,6 @@
 // A line of the service sheet: 72 characters and a newline. Each writer returns the offset past what it wrote.
+#![tactic(auto)]
+
 ghost use Rattle.std.specs.Prelude.{◌≡◌, cond, [], ◌∷◌, ◌+◌, ◌/◌, ◌^◌, ◌≤◌, ◌<◌, ltb, length};
 ghost use Rattle.ir.specs.Limits.{line_bytes};
 ghost use Rattle.encoding.specs.Numbers.{bytes_of, Written};
@@ -9,7 +11,7 @@ use encoding::numbers;
 use ir::limit;
 
 // What becomes of a node; of a literal the bits of its numbers.
-#[derive(Drop)]
+#[derive(Clone, Copy)]
 pub enum Fate {
     Kept,
     Removed,
@@ -20,7 +22,7 @@ pub enum Fate {
 }
 
 // What a line says: a node's number, its class and its fate.
-#[derive(Drop)]
+#[derive(Clone, Copy)]
 pub struct Line {
     pub node: usize,
     pub class: usize,

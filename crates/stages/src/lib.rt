@@ -1,4 +1,6 @@
 // The first stages of a fold by themselves, decoding, index and worklist, for tools that time them.
+#![tactic(auto)]
+
 ghost use Rattle.std.specs.Prelude.{◌≡◌};
 ghost use Rattle.graph.specs.Decode.{decode};
 ghost use Rattle.stages.specs.Stages.{number_in, pops_in};

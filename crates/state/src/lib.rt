@@ -1,4 +1,6 @@
 // What is known and planned, held in arrays by node number.
+#![tactic(auto)]
+
 ghost use Rattle.std.specs.Prelude.{◌≡◌, List, true, false, ℕ, ◌+◌, ◌*◌, ◌≤◌, ◌<◌, get_or};
 ghost use Rattle.std.proofs.Math.Option.{none};
 ghost use Rattle.ir.specs.Limits.{max_nodes};
@@ -33,7 +35,7 @@ pub const SHORT_CIRCUIT: u8 = 2;
 pub const TRUNCATE: u8 = 3;
 
 // What a trial gives a node: a value, a plan, both, or nothing. A wire is named by its number.
-#[derive(Drop)]
+#[derive(Clone, Copy)]
 pub enum Trial {
     Nothing,
     Known(Value),

@@ -1,4 +1,6 @@
 // Takes the nodes that feed nothing (`sweep_dead_pure` of lower/fold/mod.rs).
+#![tactic(auto)]
+
 pub mod eligible;
 pub mod fates;
 pub mod wires;

@@ -1,4 +1,6 @@
 // The fold with the stage that takes the nodes that feed nothing.
+#![tactic(auto)]
+
 ghost use Rattle.std.specs.Prelude.{◌≡◌, ℕ, ◌*◌, ◌≤◌, length, take, drop};
 ghost use Rattle.std.proofs.Math.ListN as ListN;
 ghost use Rattle.ir.specs.Limits.{max_wires, max_answer};

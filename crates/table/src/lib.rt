@@ -1,4 +1,6 @@
 // The table of rows that comes with each graph, and the graph's annihilators.
+#![tactic(auto)]
+
 ghost use Rattle.std.specs.Prelude.{◌≡◌, true, cond, List, [], ◌∷◌, ◌++◌, length, get_or, ℕ, ◌<◌};
 ghost use Rattle.std.proofs.Math.Option.{none};
 ghost use Rattle.ir.specs.Classes.{settles};
@@ -14,13 +16,13 @@ use ir::{class, variant};
 use records::access;
 
 // The Bool that settles a gate: a false an AND, a true an OR.
-#[derive(Drop)]
+#[derive(Clone, Copy)]
 pub enum AnnihilatorKind {
     AndFalse,
     OrTrue,
 }
 
-#[derive(Drop)]
+#[derive(Clone, Copy)]
 pub enum OptionAnnihilator {
     None,
     Some(AnnihilatorKind),

@@ -1,4 +1,6 @@
 // Short texts: 16 bytes in two words, low byte first. A text ends with its last byte that isn't 0.
+#![tactic(auto)]
+
 ghost use Rattle.std.specs.Prelude.{◌≡◌, false, ◌+◌, ◌≤◌, ◌<◌, length};
 ghost use Rattle.text.specs.Text.{max_text, text_of, is_text, word_length, text_length, is_false};
 ghost use Rattle.text.specs.Listed.{is_char, text_value_size, is_listed_text};

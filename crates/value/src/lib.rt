@@ -1,10 +1,12 @@
 // What wires carry, what a gate's input has, and what a gate gives.
+#![tactic(auto)]
+
 ghost use Rattle.std.specs.Prelude.{◌≡◌};
 ghost use Rattle.value.specs.Variants.{variant_of};
 
 use ir::variant;
 
-#[derive(Drop)]
+#[derive(Clone, Copy)]
 pub enum Value {
     Int(i64),
     Float(f64),
@@ -18,14 +20,14 @@ pub enum Value {
 }
 
 // A gate's input: no wire and no property, or a value.
-#[derive(Drop)]
+#[derive(Clone, Copy)]
 pub enum Operand {
     Unwired,
     Known(Value),
 }
 
 // What a gate gives: no value, or one.
-#[derive(Drop)]
+#[derive(Clone, Copy)]
 pub enum OptionValue {
     None,
     Some(Value),

@@ -1,4 +1,6 @@
 // Arithmetic on Ints, the gates' whole numbers. The names are those of Rust's methods of `i64` where it has one.
+#![tactic(auto)]
+
 ghost use Rattle.std.specs.Prelude.{◌≡◌, ◌+◌, ◌*◌, ◌%◌, ◌^◌, ◌≤◌, leb, pos, nat_abs, ◌+ℤ◌, ◌*ℤ◌, Float};
 ghost use Rattle.std.specs.Int.Count.{count_trailing_zeros};
 ghost use Rattle.std.specs.Int.Signed.{lt_z, le_z};
@@ -10,14 +12,14 @@ ghost use Rattle.whole.specs.Checked.{in_range, checked_add_of, checked_sub_of, 
 ghost use Rattle.whole.specs.Bits.{to_bits, from_bits, and_of, or_of, xor_of, not_of, nand_of, nor_of, shift_in_range, shift_left_of, shift_right_of, bit_count_of};
 
 // Rust's `Option<i64>`.
-#[derive(Drop)]
+#[derive(Clone, Copy)]
 pub enum OptionInt {
     None,
     Some(i64),
 }
 
 // Rust's `Option<f64>`.
-#[derive(Drop)]
+#[derive(Clone, Copy)]
 pub enum OptionFloat {
     None,
     Some(f64),

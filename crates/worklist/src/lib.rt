@@ -1,4 +1,6 @@
 // The worklist: nodes are tried in the order of a queue until none waits (lower/fold/mod.rs, the loop of `fold_certified_constants`).
+#![tactic(auto)]
+
 pub mod consumers;
 pub mod queue;
 

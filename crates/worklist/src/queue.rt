@@ -10,7 +10,7 @@ use ir::limit;
 pub const QUEUE_PLACES: usize = 1024;
 
 // The front is at `head`, and `count` nodes wait.
-#[derive(Drop)]
+#[derive(Clone, Copy)]
 pub struct Queue {
     pub places: [u16; QUEUE_PLACES],
     pub head: usize,

@@ -1,0 +1,24 @@
+-- `answer::write_fates` meets its contract.
+use Prim.Native.Nat.{◌-◌}
+use native.Mathlib.Omega.{arith}
+use lib.ListN.{get_or}
+use borrow.Author.Rules.{rules}
+use Rattle.state.specs.Held.{known_of}
+use Rattle.answer.specs.Nodes.{fate_by}
+use Rattle.answer.proofs.Fill.{Filling, fill_start, fill_long, fill_room, fill_next, fill_end}
+use Rattle.answer.proofs.write_fates.Goals as goal
+
+pub loop-i-init : goal.loop-i-init
+loop-i-init c = fill_start _ _ _ _ c.requires.1
+
+pub write_fate-next-requires : goal.write_fate-next-requires
+write_fate-next-requires c = (omega (arith, c.requires.0, c.loop-i-test.true), fill_room c.loop-i.invariant c.loop-i-test.true, c.requires.2)
+
+pub loop-i-preserved : goal.loop-i-preserved
+loop-i-preserved c = fill_next c.loop-i.invariant c.loop-i-test.true c.write_fate-next.ensures
+
+pub shape_of-out : goal.shape_of-out
+shape_of-out c = fill_long c.loop-i.invariant
+
+pub returns : goal.returns
+returns c = fill_end c.loop-i.invariant c.loop-i-test.false

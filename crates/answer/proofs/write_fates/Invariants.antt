@@ -1,0 +1,15 @@
+-- `answer::write_fates` meets its contract.
+use Prim.Native.Nat.{◌-◌}
+use native.Mathlib.Omega.{arith}
+use lib.ListN.{get_or}
+use borrow.Author.Rules.{rules}
+use Rattle.state.specs.Held.{known_of}
+use Rattle.answer.specs.Nodes.{fate_by}
+use Rattle.answer.proofs.Fill.{Filling, fill_start, fill_long, fill_room, fill_next, fill_end}
+use Rattle.answer.proofs.write_fates.Given as goal
+
+abbrev pub invariant-loop-i : goal.invariant-loop-i
+invariant-loop-i l = Filling (λ l.i. fate_by l.i (get_or l.actions l.i 0) (known_of l.kinds l.words l.i)) l.nodes l.initial.out l.out l.at l.next l.i
+
+abbrev pub decreases-loop-i : goal.decreases-loop-i
+decreases-loop-i l = l.nodes - l.i

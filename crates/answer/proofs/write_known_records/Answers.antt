@@ -1,0 +1,23 @@
+-- `answer::write_known_records` meets its contract.
+use Prim.Native.Nat.{◌-◌}
+use native.Mathlib.Omega.{arith}
+use borrow.Author.Rules.{rules}
+use Rattle.model.specs.Answer.{known_bytes}
+use Rattle.state.specs.Held.{known_of}
+use Rattle.answer.proofs.Fill.{Filling, fill_start, fill_long, fill_room, fill_next, fill_end}
+use Rattle.answer.proofs.write_known_records.Goals as goal
+
+pub loop-i-init : goal.loop-i-init
+loop-i-init c = fill_start _ _ _ _ c.requires.1
+
+pub write_known-next-requires : goal.write_known-next-requires
+write_known-next-requires c = (omega (arith, c.requires.0, c.loop-i-test.true), fill_room c.loop-i.invariant c.loop-i-test.true, c.requires.2)
+
+pub loop-i-preserved : goal.loop-i-preserved
+loop-i-preserved c = fill_next c.loop-i.invariant c.loop-i-test.true c.write_known-next.ensures
+
+pub shape_of-out : goal.shape_of-out
+shape_of-out c = fill_long c.loop-i.invariant
+
+pub returns : goal.returns
+returns c = fill_end c.loop-i.invariant c.loop-i-test.false

@@ -1,0 +1,8 @@
+-- `comparison::logical_xor` meets its contract.
+use borrow.Author.Rules.{rules}
+use Rattle.comparison.specs.Comparison.{logical_xor_of}
+use Rattle.comparison.proofs.logical_xor.Goals as goal
+
+pub returns : goal.returns
+unfolding logical_xor_of
+returns c = rw (c.truthy.ensures, c.truthy-2.ensures)

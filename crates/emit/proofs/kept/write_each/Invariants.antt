@@ -1,0 +1,19 @@
+-- `emit::kept::write_each` meets its contract.
+use Prim.Native.Nat.{◌-◌}
+use native.Mathlib.Omega.{arith}
+use lib.ListN.{get_or}
+use borrow.Author.Rules.{rules}
+use Rattle.encoding.specs.Wires.{wire_bytes}
+use Rattle.records.specs.Access.{wires_of, no_wire}
+use Rattle.records.proofs.Runs.{wires_length}
+use Rattle.model.specs.Answer.{each}
+use Rattle.rewrite.specs.Tallied.{kept_wire}
+use Rattle.answer.proofs.Fill.{Filling, fill_start, fill_long, fill_room, fill_next, fill_end}
+use Rattle.emit.proofs.Copying.{kept_room, kept_each}
+use Rattle.emit.proofs.kept.write_each.Given as goal
+
+abbrev pub invariant-loop-i : goal.invariant-loop-i
+invariant-loop-i l = Filling (λ j. each wire_bytes (kept_wire l.actions (get_or (wires_of l.wires) j no_wire))) l.count l.initial.out l.out l.at l.past l.i
+
+abbrev pub decreases-loop-i : goal.decreases-loop-i
+decreases-loop-i l = l.count - l.i

@@ -1,0 +1,6 @@
+-- `encoding::values::write_float` meets its contract.
+use borrow.Author.Rules.{rules}
+use Rattle.encoding.proofs.values.write_float.Goals as goal
+
+pub returns : goal.returns
+returns c = rw c.to_bits-bits.ensures at c.write_u64.ensures

@@ -1,0 +1,14 @@
+-- `folding::fold_graph` meets its contract.
+use borrow.Author.Rules.{rules}
+use Rattle.state.proofs.Stores.{cleared}
+use Rattle.folding.proofs.Stages.{plain}
+use Rattle.folding.proofs.fold_graph.Goals as goal
+
+pub propagate_graph-pops-requires : goal.propagate_graph-pops-requires
+propagate_graph-pops-requires c = let p = c.requires in (p.0, p.1, cleared _)
+
+pub answer_graph-requires : goal.answer_graph-requires
+answer_graph-requires c = record { own = _; settled = c.propagate_graph-pops.ensures }
+
+pub returns : goal.returns
+returns c = plain c.propagate_graph-pops.ensures c.answer_graph.ensures

@@ -1,0 +1,10 @@
+-- `gate_replay::main` meets its contract.
+use Prim.Native.Nat.{◌-◌, ◌≤◌}
+use borrow.Author.Rules.{rules}
+use Rattle.gate_replay.proofs.main.Given as goal
+
+abbrev pub invariant-loop-ran : goal.invariant-loop-ran
+invariant-loop-ran l = (?differ ≤ ?ran) × (?ran ≤ 1000000)
+
+abbrev pub decreases-loop-ran : goal.decreases-loop-ran
+decreases-loop-ran l = 1000000 - ?ran

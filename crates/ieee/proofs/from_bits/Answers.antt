@@ -1,0 +1,32 @@
+-- `ieee::from_bits` meets its contract.
+-- the code's test
+use Rattle.std.proofs.Common.{◌≡◌, ℕ, ◌≤◌, Bool, not, T, ltb, sym, refl, ap, ◌∙◌, subst, arith, lt→ltb}
+use lib.Arith.{le→nltb}
+use lib.Bits.{bit_and, and_mask}
+use lib.Ieee.{Float, nan, inf, fin, binary64, of_bits, is_nan, nan_bits, div}
+use lib.Ieee.Bits.{nan_bits_is, nan_bits_above}
+use Rattle.ieee.proofs.Bits.{bits_of_of_bits}
+use Rattle.ieee.proofs.from_bits.Goals as goal
+
+test : (n : ℕ) → ltb 0x7ff0_0000_0000_0000 (bit_and n 0x7fff_ffff_ffff_ffff) ≡ nan_bits binary64 n
+test n = ap (ltb 0x7ff0_0000_0000_0000) (and_mask n 63) ∙ sym (nan_bits_above binary64 n)
+
+no_nan : (n : ℕ) → bit_and n 0x7fff_ffff_ffff_ffff ≤ 0x7ff0_0000_0000_0000 → T (not (nan_bits binary64 n))
+no_nan n h = subst (λ (b : Bool). T (not b)) (test n) (le→nltb _ _ h)
+
+quotient : (x : Float) → T (is_nan x) → div binary64 (of_bits binary64 0) (of_bits binary64 0) ≡ x
+unfolding is_nan div of_bits
+quotient nan t = refl
+quotient (inf s) t = absurd t
+quotient (fin s m e) t = absurd t
+
+pub float_from_bits-result : goal.float_from_bits-result
+float_from_bits-result c = no_nan c.args.bits (omega (arith, c.if-bits-gt-INFINITY.false))
+
+pub returns-then-bits-gt-INFINITY : goal.returns-then-bits-gt-INFINITY
+returns-then-bits-gt-INFINITY c =
+    let e = quotient _ (subst T (test c.args.bits ∙ nan_bits_is binary64 c.args.bits) (lt→ltb _ _ c.if-bits-gt-INFINITY.true)) in
+    (e, bits_of_of_bits _ (omega arith) e)
+
+pub returns-else-bits-gt-INFINITY : goal.returns-else-bits-gt-INFINITY
+returns-else-bits-gt-INFINITY c = (refl, bits_of_of_bits _ (omega arith) refl)

@@ -1,0 +1,7 @@
+-- `ir::class::is_gate` meets its contract.
+use mathlib.Core.Path.{refl}
+use borrow.Author.Rules.{rules}
+use Rattle.ir.proofs.class.is_gate.Goals as goal
+
+pub returns : goal.returns
+returns c = rw c.is_class.ensures refl

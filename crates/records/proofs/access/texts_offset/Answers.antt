@@ -1,0 +1,11 @@
+-- `records::access::texts_offset` meets its contract.
+use native.Mathlib.Omega.{arith}
+use borrow.Author.Rules.{rules}
+use Rattle.records.proofs.Laid.{inside}
+use Rattle.records.proofs.access.texts_offset.Goals as goal
+
+pub overflow_mul-result : goal.overflow_mul-result
+overflow_mul-result c = omega (arith, inside _ _ c.requires)
+
+pub overflow_sub-result : goal.overflow_sub-result
+overflow_sub-result c = omega (arith, inside _ _ c.requires)

@@ -1,0 +1,15 @@
+-- `rewrite::chains::link_all_taken` meets its contract.
+use Prim.Native.Nat.{◌≤◌, ◌-◌, ◌+◌}
+use native.Mathlib.Omega.{arith}
+use mathlib.Core.Path.{◌≡◌}
+use lib.ListN.{length}
+use Rattle.records.specs.Access.{wires_of}
+use Rattle.records.proofs.Runs.{wires_length}
+use Rattle.rewrite.specs.Linked.{takes, Linked}
+use Rattle.rewrite.proofs.chains.link_all_taken.Given as goal
+
+abbrev pub invariant-loop-i : goal.invariant-loop-i
+invariant-loop-i l = (l.i ≤ length (wires_of l.wires)) × Linked (wires_of l.wires) (takes l.actions l.details) l.first l.next l.i
+
+abbrev pub decreases-loop-i : goal.decreases-loop-i
+decreases-loop-i l = l.i

@@ -1,0 +1,12 @@
+-- `rewrite::sources::jump_all` meets its contract.
+use Prim.Native.Nat.{◌-◌}
+use native.Mathlib.Omega.{arith}
+use Rattle.records.specs.Access.{wires_of}
+use Rattle.rewrite.proofs.Jumping.{Jumping, jumping_start, jumping_next, jumping_end, jumping_still}
+use Rattle.rewrite.proofs.sources.jump_all.Given as goal
+
+abbrev pub invariant-loop-i : goal.invariant-loop-i
+invariant-loop-i l = Jumping (wires_of l.wires) l.actions l.nodes l.down l.initial.sources l.sources l.any l.far l.i
+
+abbrev pub decreases-loop-i : goal.decreases-loop-i
+decreases-loop-i l = l.nodes - l.i

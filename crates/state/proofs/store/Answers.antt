@@ -1,0 +1,43 @@
+-- `state::store` meets its contract.
+use borrow.Author.Rules.{rules}
+use Rattle.state.proofs.Stores.{adds_nothing, adds_known, adds_literal, adds_short_circuit, adds_short_circuit_known, adds_truncate}
+use Rattle.state.proofs.store.Goals as goal
+
+pub enum_told-1 : goal.enum_told-1
+enum_told-1 c = c.in-Nothing.keys1
+
+pub enum_known-trial : goal.enum_known-trial
+enum_known-trial c = c.in-Known.keys2
+
+pub enum_known-trial-in-BecomeLiteral-1 : goal.enum_known-trial-in-BecomeLiteral-1
+enum_known-trial-in-BecomeLiteral-1 c = c.in-BecomeLiteral.keys3
+
+pub enum_known-trial-in-ShortCircuit-1 : goal.enum_known-trial-in-ShortCircuit-1
+enum_known-trial-in-ShortCircuit-1 c = c.in-ShortCircuit.keys4
+
+pub enum_known-trial-in-ShortCircuitKnown-1 : goal.enum_known-trial-in-ShortCircuitKnown-1
+enum_known-trial-in-ShortCircuitKnown-1 c = c.in-ShortCircuitKnown.keys5
+
+pub enum_known-trial-in-Truncate-1 : goal.enum_known-trial-in-Truncate-1
+enum_known-trial-in-Truncate-1 c = c.in-Truncate.keys6
+
+pub wide-requires : goal.wide-requires
+wide-requires c = tt
+
+pub returns-in-Nothing : goal.returns-in-Nothing
+returns-in-Nothing c = adds_nothing _ _ _ _ _ c.requires _ c.in-Nothing.is
+
+pub returns-in-Known : goal.returns-in-Known
+returns-in-Known c = adds_known _ _ _ _ _ c.requires _ _ _ _ c.in-Known.is c.learn.ensures
+
+pub returns-in-BecomeLiteral : goal.returns-in-BecomeLiteral
+returns-in-BecomeLiteral c = adds_literal _ _ _ _ _ c.requires _ _ _ _ _ _ c.in-BecomeLiteral.is c.learn-in-BecomeLiteral.ensures c.plan.ensures
+
+pub returns-in-ShortCircuit : goal.returns-in-ShortCircuit
+returns-in-ShortCircuit c = adds_short_circuit _ _ _ _ _ c.requires _ _ _ _ c.in-ShortCircuit.is c.plan-in-ShortCircuit.ensures
+
+pub returns-in-ShortCircuitKnown : goal.returns-in-ShortCircuitKnown
+returns-in-ShortCircuitKnown c = adds_short_circuit_known _ _ _ _ _ c.requires _ _ _ _ _ _ _ c.in-ShortCircuitKnown.is c.learn-in-ShortCircuitKnown.ensures c.plan-in-ShortCircuitKnown.ensures
+
+pub returns-in-Truncate : goal.returns-in-Truncate
+returns-in-Truncate c = adds_truncate _ _ _ _ _ c.requires _ _ _ _ c.in-Truncate.is (rw c.wide.ensures at c.plan-in-Truncate.ensures)

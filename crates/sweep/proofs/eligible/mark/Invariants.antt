@@ -1,0 +1,16 @@
+-- `sweep::eligible::mark` meets its contract.
+use Prim.Native.Nat.{◌-◌}
+use native.Mathlib.Omega.{arith}
+use mathlib.Core.Path.{refl}
+use Rattle.ir.specs.Limits.{max_nodes}
+use Rattle.graph.specs.Decode.{graph_of}
+use Rattle.sweep.proofs.Marks.{Marking, marking_start, marking_more, marking_ends}
+use Rattle.sweep.proofs.eligible.mark.Given as goal
+
+abbrev pub invariant-loop-n : goal.invariant-loop-n
+invariant-loop-n l =
+    Marking (graph_of l.input) l.actions l.n l.eligible
+
+abbrev pub decreases-loop-n : goal.decreases-loop-n
+decreases-loop-n l =
+    l.nodes - l.n

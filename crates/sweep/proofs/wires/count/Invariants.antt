@@ -1,0 +1,19 @@
+-- `sweep::wires::count` meets its contract.
+use Prim.Native.Nat.{◌+◌, ◌-◌, ◌≤◌}
+use native.Mathlib.Omega.{arith}
+use mathlib.Core.Path.{◌≡◌, refl}
+use lib.ListN.{length, take}
+use Rattle.records.specs.Access.{wires_of}
+use Rattle.records.proofs.Runs.{wires_length}
+use Rattle.model.specs.Maps.{keep}
+use Rattle.sweep.specs.Queue.{stays_in}
+use Rattle.sweep.proofs.Stays.{counted_more, counted_all, counted_few}
+use Rattle.sweep.proofs.wires.count.Given as goal
+
+abbrev pub invariant-loop-i : goal.invariant-loop-i
+invariant-loop-i l =
+    (l.i ≤ l.all) × (l.left ≡ length (keep (stays_in l.taken) (take l.i (wires_of l.wires))))
+
+abbrev pub decreases-loop-i : goal.decreases-loop-i
+decreases-loop-i l =
+    l.all - l.i

@@ -1,0 +1,27 @@
+-- `swept::rewrite_graph` meets its contract.
+use mathlib.Core.Path.{refl}
+use borrow.Author.Rules.{rules}
+use Rattle.propagation.proofs.Accepted.{accepted_graph}
+use Rattle.rewritten.proofs.Stages.{refused_as}
+use Rattle.rewritten.proofs.Entries.{refuse_wires}
+use Rattle.sweep.specs.Swept.{swept_bytes}
+use Rattle.swept.proofs.Stages.{front_inside, emitted_at}
+use Rattle.swept.proofs.rewrite_graph.Goals as goal
+
+pub rewrite_graph-requires : goal.rewrite_graph-requires
+rewrite_graph-requires c =
+    record { own = _; kinds = c.args.kinds.now; words = c.args.words.now; pops = c.args.pops; settled = c.requires.0; long = c.requires.1 }
+
+pub answer_swept-requires : goal.answer_swept-requires
+answer_swept-requires c =
+    let P = c.requires in
+    let R = rw c.in-Wires.is at (c.rewrite_graph.ensures.law _ _ _ _ P.0) in
+    (emitted_at P.0 R P.1 refl, front_inside P.0 R P.1)
+
+pub returns-in-Wires : goal.returns-in-Wires
+returns-in-Wires c = c.answer_swept.ensures
+
+pub returns-in-Refused : goal.returns-in-Refused
+returns-in-Refused c =
+    let P = c.requires in
+    refuse_wires swept_bytes (accepted_graph _ _ P.0.accepts) (refused_as (rw c.in-Refused.is at (c.rewrite_graph.ensures.law _ _ _ _ P.0)))

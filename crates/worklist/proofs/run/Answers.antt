@@ -1,0 +1,62 @@
+-- `worklist::run` meets its contract. The measure: a pop for each node and each wire is enough.
+use mathlib.Core.Path.{refl}
+use Prim.Native.Nat.{◌+◌, ◌-◌}
+use native.Mathlib.Omega.{arith}
+use lib.ListN.{length}
+use borrow.Author.Rules.{rules}
+use Rattle.graph.specs.Decode.{graph_of}
+use Rattle.model.specs.Inputs.{size}
+use Rattle.model.specs.Own.{own_of}
+use Rattle.worklist.proofs.Running.{At, nodes_few, at_start, at_most, at_end, at_less, at_node, at_unknown, at_rest, at_next}
+use Rattle.worklist.proofs.run.Goals as goal
+
+pub start-queue-requires : goal.start-queue-requires
+start-queue-requires c = let p = c.requires.0 in (nodes_few _ p.counts p.bounded, refl)
+
+pub loop-queue-init : goal.loop-queue-init
+loop-queue-init c = let p = c.requires in at_start p.0.counts p.2 c.start-queue.ensures
+
+pub front-n-requires : goal.front-n-requires
+front-n-requires c = c.loop-queue.invariant.queued.head_in
+
+pub rest-queue-requires : goal.rest-queue-requires
+rest-queue-requires c = (c.loop-queue.invariant.queued.head_in, c.loop-queue-test.true)
+
+-- unturned: f.before.before.before is the place At-loop-queue
+pub bounds-marks-n : goal.bounds-marks-n
+bounds-marks-n c =
+    let l = (goal.at.bounds-marks-n c).At-loop-queue in
+    let b = l.before.before.before.before.before.before.requires.0.bounded in
+    omega (arith, at_node l.before.loop.invariant b l.loop-test.true c.front-n.ensures, b.few_nodes)
+
+-- unturned: r.before is the place After-front-n
+pub turn-waiting-requires : goal.turn-waiting-requires
+turn-waiting-requires c =
+    let f = (goal.at.turn-waiting-requires c).After-front-n in
+    let l = f.before.before.before in
+    let p = l.before.before.before.before.before.before.requires in
+    let i = l.before.loop.invariant in
+    let w = l.loop-test.true in
+    let e = f.front.ensures in
+    (p.0, p.1, at_node i p.0.bounded w e, at_unknown i p.0.bounded w e, at_rest i p.0.bounded w e c.rest-queue.ensures)
+
+pub overflow_add-pops : goal.overflow_add-pops
+overflow_add-pops c =
+    let b = c.requires.0.bounded in
+    record { fits = omega (arith, at_most c.loop-queue.invariant b, b.few_nodes, b.few_wires) }
+
+pub loop-queue-smaller : goal.loop-queue-smaller
+loop-queue-smaller c =
+    omega (arith, at_less c.loop-queue.invariant c.requires.0.bounded c.loop-queue-test.true)
+
+-- unturned: t.before.before.before.before.before.before.before is the place After-rest-queue
+pub loop-queue-preserved : goal.loop-queue-preserved
+loop-queue-preserved c =
+    let r = (goal.at.loop-queue-preserved c).After-rest-queue in
+    let f = r.before in
+    let l = f.before.before.before in
+    let b = l.before.before.before.before.before.before.requires.0.bounded in
+    at_next l.before.loop.invariant b l.loop-test.true f.front.ensures r.rest.ensures c.turn-waiting.ensures c.longer-queue.ensures
+
+pub returns : goal.returns
+returns c = at_end c.loop-queue.invariant c.requires.0.bounded (omega (arith, c.loop-queue-test.false))
