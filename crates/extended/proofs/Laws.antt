@@ -1,4 +1,5 @@
 -- What a gate gives, from what was read of its operands. An Int that is passed on is read back from its bits.
+use mir.Syntax.{w64}
 use Prim.Native.Nat.{ℕ, ◌^◌, ◌<◌}
 use mathlib.Core.Path.{◌≡◌, refl, sym, ap, ◌∙◌}
 use mathlib.Core.Bool.{Bool, true, false}
@@ -23,7 +24,7 @@ no_int {other = other} f p q e = e ∙ ap (λ (a : OptionInt). on_int_else a oth
 pub an_int : {o a : OptionInt} {n : ℤ} {r : OptionValue} (other : OptionValue) (f : ℤ → OptionValue) → o ≡ a → o ≡ OptionInt.Some n → mag n < 2 ^ 63 → r ≡ f (read_back n)
     → r ≡ on_int_else a other f
 unfolding on_int_else
-an_int other f p q h e = e ∙ ap f (to_z-of_z (sfits_of h)) ∙ ap (λ (a : OptionInt). on_int_else a other f) (sym q ∙ p)
+an_int other f p q h e = e ∙ ap f (to_z-of_z {w = w64} (sfits_of h)) ∙ ap (λ (a : OptionInt). on_int_else a other f) (sym q ∙ p)
 
 pub no_float : {o a : OptionFloat} (f : Float → OptionValue) → o ≡ a → o ≡ OptionFloat.None → OptionValue.None ≡ on_float a f
 unfolding on_float
@@ -45,7 +46,7 @@ no_float_second OptionFloat.None f p q = refl
 no_float_second (OptionFloat.Some x) f p q = no_float (f x) p q
 
 pub same_int : {y : ℤ} (x : ℤ) → mag x < 2 ^ 63 → x ≡ y → int (read_back x) ≡ int y
-same_int x h e = ap int (to_z-of_z (sfits_of h) ∙ e)
+same_int x h e = ap int (to_z-of_z {w = w64} (sfits_of h) ∙ e)
 
 pub same_option : {r : OptionValue} {x y : OptionInt} → r ≡ given_int x → x ≡ y → r ≡ given_int y
 same_option e p = e ∙ ap given_int p

@@ -2,7 +2,13 @@
 #![tactic(auto)]
 
 use folding::Outcome;
-use libc::{STDERR_FILENO, STDIN_FILENO, STDOUT_FILENO};
+use std::io::{Input, Read};
+
+const STDIN_FILENO: i32 = 0;
+
+const STDOUT_FILENO: i32 = 1;
+
+const STDERR_FILENO: i32 = 2;
 
 // One byte more than an input may have, so that a longer one is seen to be too long.
 const MOST: usize = 65537;
@@ -10,9 +16,12 @@ const MOST: usize = 65537;
 const ROOM: usize = 65536;
 
 // Whether standard input is at its end, and did not fail.
-fn at_end() -> bool {
+fn at_end(rt: &impl Input) -> bool {
     let mut byte = [0u8; 1];
-    libc::read(STDIN_FILENO, &mut byte) == 0
+    match rt.reader().read(&mut byte) {
+        Ok(n) => n == 0,
+        Err(_) => false,
+    }
 }
 
 fn write_refusal(number: u8, place: usize) -> bool {
@@ -31,11 +40,11 @@ fn fold(input: &[u8], out: &mut [u8]) -> bool {
     }
 }
 
-fn main() {
+fn main(rt: HostRuntime) {
     let mut input = [0u8; MOST];
     let n = io::read_full(STDIN_FILENO, &mut input);
     if n < MOST {
-        if !at_end() {
+        if !at_end(&rt) {
             io::write_all(STDERR_FILENO, b"fold: the input cannot be read\n");
             return;
         }

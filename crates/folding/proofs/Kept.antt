@@ -33,11 +33,11 @@ use Rattle.folding.specs.declared.Outcome.{Outcome}
 use Rattle.folding.specs.Entry.{case_of, numbers, Answers}
 use Rattle.folding.specs.Demands.{RefusalsBy, EndlessAt, Accepted, OrderFree, AnswerBy, PopsOf, FinitePlan, CleanWires, TooManyWires}
 
--- an entry writes no more than `most` bytes
-abbrev pub Short : ℕ → (Graph → State → List Wire → List ℕ) → Type 0
-Short most bytes = (g : Graph) → Bounded g.wires (size g) → (ws : List Wire) → rewrite_wires (plan_of g) (size g) g.wires ≡ some ws → length ws ≤ max_wires → length (bytes g (fold_of g).state ws) ≤ most
+-- an entry writes no more than `max_answer` bytes
+abbrev pub Short : (Graph → State → List Wire → List ℕ) → Type 0
+Short bytes = (g : Graph) → Bounded g.wires (size g) → (ws : List Wire) → rewrite_wires (plan_of g) (size g) g.wires ≡ some ws → length ws ≤ max_wires → length (bytes g (fold_of g).state ws) ≤ max_answer
 
-pub fold_short : Short max_answer fold_bytes
+pub fold_short : Short fold_bytes
 fold_short g = answer_size (literals g) g
 
 module _ (bytes : Graph → State → List Wire → List ℕ) {input before after : List ℕ} {r : Outcome} (A : Answers (outcome_by bytes) input before after r) where
@@ -82,11 +82,11 @@ module _ (bytes : Graph → State → List Wire → List ℕ) {input before afte
       go (folds a k) e = omega (arith, (folds_folding bytes input a k room e).fits, ap (λ (m : Numbers). m.length) (numbers_kept ∙ ap numbers_of e))
       go (refuses n p) e = omega (arith, ap (λ (m : Numbers). m.length) (numbers_kept ∙ ap numbers_of e))
 
-  pub longest_kept : {most : ℕ} → Short most bytes → (numbers r).length ≤ most
+  pub longest_kept : Short bytes → (numbers r).length ≤ max_answer
   unfolding numbers_of size
-  longest_kept {most} short = go (outcome_by bytes input room) refl
+  longest_kept short = go (outcome_by bytes input room) refl
     where
-      go : (o : Result) → outcome_by bytes input room ≡ o → (numbers r).length ≤ most
+      go : (o : Result) → outcome_by bytes input room ≡ o → (numbers r).length ≤ max_answer
       go (folds a k) e =
           let F = folds_folding bytes input a k room e in
           omega (arith, short (graph_of input) (bounded input) F.ws F.rewritten F.few, ap length F.bytes, ap (λ (m : Numbers). m.length) (numbers_kept ∙ ap numbers_of e))
@@ -132,9 +132,9 @@ module _ (bytes : Graph → State → List Wire → List ℕ) {input before afte
   pub offset_kept : (numbers r).number ≡ 9 → EndlessAt input (numbers r).place
   offset_kept e = endless_of 9 (numbers r).place refl ((refusals_kept.exactly 9 (numbers r).place (omega arith)).0 (e, refl))
 
-  -- ---- a buffer of `most` bytes
+  -- ---- a buffer of `max_answer` bytes
 
-  many_of : {most : ℕ} (n p : ℕ) → n ≡ 10 → Short most bytes → most ≤ room → RefusedBy bytes input room n p → TooManyWires (graph_of input)
+  many_of : (n p : ℕ) → n ≡ 10 → Short bytes → max_answer ≤ room → RefusedBy bytes input room n p → TooManyWires (graph_of input)
   unfolding size
   many_of n p e short m (RefusedBy.decoding d) = absurd (by_questions (refused_number input n p d).1 (omega arith) (omega arith))
   many_of n p e short m (RefusedBy.rewriting d f) = absurd (omega arith)
@@ -145,7 +145,7 @@ module _ (bytes : Graph → State → List Wire → List ℕ) {input before afte
       go (inr h) (yes k) = k
       go (inr h) (no k) = absurd (omega (arith, short g (rw (← (graph_of_lem input d)) at (bounded input)) ws q (omega arith)))
 
-  pub enough_kept : {most : ℕ} → Short most bytes → most ≤ room → (numbers r).number ≡ 10 → TooManyWires (graph_of input)
+  pub enough_kept : Short bytes → max_answer ≤ room → (numbers r).number ≡ 10 → TooManyWires (graph_of input)
   enough_kept short m e = many_of 10 (numbers r).place refl short m ((refusals_kept.exactly 10 (numbers r).place (omega arith)).0 (e, refl))
 
   -- ---- an input that is accepted

@@ -30,10 +30,10 @@ pub enum Outcome {
     Refused { number: u8, place: usize },
 }
 
-// The numbers of the refusals that follow decoding: of question 9, and of question 10.
-pub const ENDLESS: u8 = 9;
+// The numbers of the refusals that follow decoding.
+const ENDLESS: u8 = 9;
 
-pub const NO_SPACE: u8 = 10;
+const NO_SPACE: u8 = 10;
 
 // The outcome of an accepted input.
 fn folded(length: usize, pops: usize) -> Outcome

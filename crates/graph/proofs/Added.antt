@@ -47,6 +47,9 @@ module _ {n : ℕ} {s : List ℕ} {at : ℕ} (h : Sound n PropertyRole s at) whe
   pub property_port : byte s (at + 3) ≤ 10
   property_port = leb-true (byte s (at + 3)) 10 (and_left (leb (byte s (at + 3)) 10) _ h.listed)
 
+  pub slot_small : {i : ℕ} → i ≡ slot (u16_at s (at + 1)) (byte s (at + 3)) → i < 11264
+  slot_small e = omega (arith, property_node, property_port)
+
 look_old : (n p : ℕ) (qs : List Property) (q : Property) → (eqb q.node_id n && eqb q.port p) ≡ false → lookup n p (snoc qs q) ≡ lookup n p qs
 unfolding lookup
 look_old n p [] q e = simp e

@@ -1,7 +1,6 @@
 // IEEE 754 binary64: the bits, the sign and the parts of a float, rounding to an integer, finiteness, and the remainder.
 #![tactic(auto)]
 
-
 ghost use Rattle.std.specs.Prelude.{◌≡◌, ◌*◌, ◌%◌, ◌^◌, ◌<◌, true, false};
 ghost use Rattle.std.specs.Float.Ieee as Ieee;
 ghost use Rattle.std.specs.Float.{binary64};

@@ -12,7 +12,7 @@ use Rattle.model.specs.Offer.{PlanAction, BecomeLiteral, ShortCircuit, Truncate,
 use Rattle.model.specs.Worklist.{Work, worklist}
 use Rattle.model.specs.Rewrite.{rewrite_wires, Endless}
 use Rattle.model.specs.Trial.{State}
-use Rattle.model.specs.Outcome.{wire_offset}
+use Rattle.model.specs.Outcome.{wire_offset, fold_bytes}
 
 -- the worklist of a graph whose Literals are what they are by themselves
 abbrev pub fold_of : Graph → Work
@@ -38,6 +38,9 @@ pub data RefusedBy (bytes : Graph → State → List Wire → List ℕ) (input :
   -- 10: every wire's does, and there are too many rewritten wires, or what is written is too long
   writing : {g : Graph} {ws : List Wire} → decode input ≡ accepted g → rewrite_wires (plan_of g) (size g) g.wires ≡ some ws →
       (max_wires < length ws) ⊎ (room < length (bytes g (fold_of g).state ws)) → RefusedBy bytes input room 10 0
+
+abbrev pub Refused : List ℕ → ℕ → ℕ → ℕ → Type 0
+Refused input room n p = RefusedBy fold_bytes input room n p
 
 -- ---- rewritten wires
 

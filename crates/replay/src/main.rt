@@ -7,7 +7,10 @@ ghost use Rattle.std.proofs.Math.ListN as ListN;
 ghost use Rattle.model.specs.Outcome.{numbers_of, written, outcome};
 
 use encoding::numbers;
-use libc::{STDIN_FILENO, STDOUT_FILENO};
+
+const STDIN_FILENO: i32 = 0;
+
+const STDOUT_FILENO: i32 = 1;
 
 // More cases than this are not read.
 const MOST: u64 = 1000000;

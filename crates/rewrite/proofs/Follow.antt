@@ -22,6 +22,7 @@ found? drops = inr drop
 found? (from e) = inr start
 
 not_found : {X : Type 0} (s : Source) → s ≡ cycles → Found s → X
+not_found {X = X} cycles e f = elim f [ ]
 not_found drops e f = let z : ◌≡◌ {A = ℕ} 0 1 = cc in let b : ⊥ = omega arith in absurd b
 not_found (from x) e f = let z : ◌≡◌ {A = ℕ} 0 1 = cc in let b : ⊥ = omega arith in absurd b
 
@@ -48,6 +49,7 @@ module _ (p : Map PlanAction) where
     follow_found k e x = go (dec_lt n k) (found? (follow p n e))
       where
         cycle : (s : Source) → follow p k e ≡ s → Found s → SourceCycle p e → ⊥
+        cycle cycles q y c = elim y [ ]
         cycle drops q y c = no_source_cycle p k e (rw q tt) c
         cycle (from z) q y c = no_source_cycle p k e (rw q tt) c
 

@@ -5,7 +5,7 @@ use native.Mathlib.Decide.{ℕ_discrete}
 use native.Mathlib.Nat.{add_assoc}
 use native.Mathlib.Numerals.{one-add}
 use mathlib.Core.Path.{◌≡◌, refl, sym, ap, ◌∙◌}
-use mathlib.Core.Bool.{Bool, true, false, ◌||◌, and_false}
+use mathlib.Core.Bool.{Bool, true, false, ◌||◌, and-false}
 use mathlib.Core.List.{List}
 use lib.Dec.{eqb}
 use lib.ListN.{length, get_or, set, length-set}
@@ -34,7 +34,7 @@ module _ (ws : List Wire) (actions sources : List ℕ) (m : ℕ) where
 
   pub jump_ends : (get_or actions (passed_to ws sources m).node_id 0 ≡ 2 → ⊥) → jumps ws actions sources m ≡ false
   unfolding jumps
-  jump_ends h = rw (ne_eqb _ _ h) (and_false (eqb (get_or actions m 0) 2))
+  jump_ends h = rw (ne_eqb _ _ h) (and-false (eqb (get_or actions m 0) 2))
 
   pub jump_on : get_or actions m 0 ≡ 2 → get_or actions (passed_to ws sources m).node_id 0 ≡ 2 → jumps ws actions sources m ≡ true
   unfolding jumps

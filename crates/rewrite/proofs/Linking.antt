@@ -4,7 +4,7 @@ use native.Mathlib.Omega.{arith}
 use native.Mathlib.Decide.{ℕ_discrete, dec_lt}
 use native.Mathlib.Numerals.{add-one}
 use mathlib.Core.Path.{◌≡◌, refl, sym, ap, ◌∙◌, fun_ext}
-use mathlib.Core.Bool.{Bool, true, false, cond, ◌&&◌, and_false}
+use mathlib.Core.Bool.{Bool, true, false, cond, ◌&&◌, and-false}
 use mathlib.Core.List.{List, [], ◌∷◌}
 use mathlib.Core.Logic.{◌⊎◌, inl, inr, ⊎_elim}
 use lib.Dec.{eqb, ltb}
@@ -169,7 +169,7 @@ module _ (actions details : List ℕ) where
 
   takes_other : (w : Wire) (b : ℕ) → (b ≡ w.source.node_id → ⊥) → takes actions details b w ≡ false
   unfolding takes is_port
-  takes_other w b h = rw (ne_eqb w.source.node_id b (λ e. h (sym e))) (and_false (eqb (get_or actions b 0) 3))
+  takes_other w b h = rw (ne_eqb w.source.node_id b (λ e. h (sym e))) (and-false (eqb (get_or actions b 0) 3))
 
   -- a wire that its own source node does not take, no node takes
   takes_not : (w : Wire) → taken_by w ≡ false → (b : ℕ) → takes actions details b w ≡ false
@@ -185,7 +185,7 @@ module _ (actions details : List ℕ) where
     lives_by w b t e = rw e
 
     lives_dead : (w : Wire) → count_in actions counts w.target ≡ 0 → (b : ℕ) → lives actions details counts b w ≡ false
-    lives_dead w e b = lives_by w b (takes actions details b w) refl ∙ rw e (and_false (takes actions details b w))
+    lives_dead w e b = lives_by w b (takes actions details b w) refl ∙ rw e (and-false (takes actions details b w))
 
   -- one wire w, the i-th, as the code goes
   module _ (ws : List Wire) (first next : List ℕ) (i : ℕ) (h : i < length ws) (f : Within ws) (w : Wire) (e : w ≡ get_or ws i no_wire) where

@@ -18,6 +18,11 @@ pub enum Rewritten {
     Refused { number: u8, place: usize },
 }
 
+// The numbers of the refusals of questions 9 and 10.
+const ENDLESS: u8 = 9;
+
+const TOO_MANY: u8 = 10;
+
 // How many bytes the records of 4,096 wires have.
 pub const WIRE_BYTES: usize = wire_records::SIZE * limit::WIRES;
 
@@ -39,7 +44,7 @@ fn write_wires(
 {
     if limit::WIRES < count {
         return Rewritten::Refused {
-            number: folding::NO_SPACE,
+            number: TOO_MANY,
             place: 0,
         };
     }
@@ -89,7 +94,7 @@ fn rewrite_planned(
         Rewriting::Endless { index } => {
             let place = access::wires_offset(input, counts) + wire_records::SIZE * index;
             Rewritten::Refused {
-                number: folding::ENDLESS,
+                number: ENDLESS,
                 place,
             }
         }

@@ -6,7 +6,6 @@ use mathlib.Core.List.{List, [], ◌∷◌, ◌++◌}
 use Prim.Native.Nat.{ℕ, zero, suc, ◌≤◌}
 use native.Mathlib.Omega.{arith}
 use lib.ListN.{length, length-append}
-use Rattle.ir.specs.Limits.{max_answer}
 use Rattle.ir.specs.declared.Wire.{Wire}
 use Rattle.encoding.specs.Numbers.{bytes_of}
 use Rattle.encoding.specs.Wires.{wire_bytes}
@@ -62,7 +61,7 @@ swept_shorter n s taken ws =
       wires_size ws,
     )
 
-pub swept_short : Short max_answer swept_bytes
+pub swept_short : Short swept_bytes
 swept_short g b ws e few = omega (arith, swept_shorter (size g) (fold_of g).state (taken_of g (plan_of g) ws) ws, fold_short g b ws e few)
 
 -- ---- any order of removal

@@ -24,6 +24,9 @@ use ir::limit;
 use rewritten::{Rewritten, WIRE_BYTES};
 use state::WORDS;
 
+// The number of the refusal where the buffer does not hold the answer.
+const NO_SPACE: u8 = 10;
+
 // Marks the nodes that are taken, and gives them the action of those that are removed.
 pub fn sweep_graph(
     input: &[u8],
@@ -62,7 +65,7 @@ fn write_swept(
     let left = sweep::wires::count(wires, nodes, taken);
     if !folding::holds(kinds, swept, nodes, left, out.len()) {
         return Outcome::Refused {
-            number: folding::NO_SPACE,
+            number: NO_SPACE,
             place: 0,
         };
     }

@@ -33,4 +33,4 @@ loop-i-preserved c =
 pub returns : goal.returns
 returns c =
     let e : c.loop-i.i ≡ c.args.nodes = omega arith in
-    ((λ words actions. rw e at (c.loop-i.invariant.2 words actions)), (omega arith, rw e at c.loop-i.invariant.3))
+    record { bound = λ words actions. rw e at (c.loop-i.invariant.2 words actions); few = omega arith; count = rw e at c.loop-i.invariant.3 }

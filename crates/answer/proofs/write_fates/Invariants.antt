@@ -9,7 +9,7 @@ use Rattle.answer.proofs.Fill.{Filling, fill_start, fill_long, fill_room, fill_n
 use Rattle.answer.proofs.write_fates.Given as goal
 
 abbrev pub invariant-loop-i : goal.invariant-loop-i
-invariant-loop-i l = Filling (λ l.i. fate_by l.i (get_or l.actions l.i 0) (known_of l.kinds l.words l.i)) l.nodes l.initial.out l.out l.at l.next l.i
+invariant-loop-i l = Filling (λ i. fate_by i (get_or l.actions i 0) (known_of l.kinds l.words i)) l.nodes l.initial.out l.out l.at l.next l.i
 
 abbrev pub decreases-loop-i : goal.decreases-loop-i
 decreases-loop-i l = l.nodes - l.i

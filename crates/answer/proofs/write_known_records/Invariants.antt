@@ -8,7 +8,7 @@ use Rattle.answer.proofs.Fill.{Filling, fill_start, fill_long, fill_room, fill_n
 use Rattle.answer.proofs.write_known_records.Given as goal
 
 abbrev pub invariant-loop-i : goal.invariant-loop-i
-invariant-loop-i l = Filling (λ l.i. known_bytes l.i (known_of l.kinds l.words l.i)) l.nodes l.initial.out l.out l.at l.next l.i
+invariant-loop-i l = Filling (λ i. known_bytes i (known_of l.kinds l.words i)) l.nodes l.initial.out l.out l.at l.next l.i
 
 abbrev pub decreases-loop-i : goal.decreases-loop-i
 decreases-loop-i l = l.nodes - l.i

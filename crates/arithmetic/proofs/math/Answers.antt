@@ -1,5 +1,4 @@
 -- `arithmetic::math` meets its contract.
-use borrow.Author.Rules.{rules}
 use Rattle.arithmetic.specs.Arithmetic.{math_of}
 use Rattle.arithmetic.proofs.math.Goals as goal
 

@@ -2,20 +2,8 @@
 use Rattle.bitwise.proofs.Laws.{gate}
 use Rattle.bitwise.proofs.bitwise_bit_count.Goals as goal
 
-pub as_int-requires : goal.as_int-requires
-as_int-requires c = tt
-
-pub enum_known-n : goal.enum_known-n
-enum_known-n c = c.in-Some.keys1
-
-pub enum_told-1 : goal.enum_told-1
-enum_told-1 c = c.in_default.keys2
-
 pub returns-in_default : goal.returns-in_default
 returns-in_default c = search gate
-
-pub bit_count-requires : goal.bit_count-requires
-bit_count-requires c = tt
 
 pub returns : goal.returns
 returns c = search gate

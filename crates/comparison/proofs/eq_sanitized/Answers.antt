@@ -1,5 +1,4 @@
 -- `comparison::eq_sanitized` meets its contract.
-use borrow.Author.Rules.{rules}
 use Rattle.comparison.specs.Comparison.{eq_s}
 use Rattle.comparison.proofs.eq_sanitized.Goals as goal
 

@@ -1,13 +1,9 @@
 -- `comparison::equality` meets its contract.
 use Rattle.comparison.proofs.Laws.{equality_as}
-use borrow.Author.Rules.{rules}
 use Rattle.comparison.proofs.equality.Goals as goal
 
 pub returns-in_default : goal.returns-in_default
 returns-in_default c = rw (← equality_as, ← c.or_default.ensures, c.in_default.is)
-
-pub returns-in_default-or_default : goal.returns-in_default-or_default
-returns-in_default-or_default c = rw (← equality_as, ← c.or_default.ensures, c.in-Known.is, ← c.or_default-2.ensures, c.in_default-or_default.is)
 
 pub returns-in_default-eq_value : goal.returns-in_default-eq_value
 returns-in_default-eq_value c = rw (← equality_as, ← c.or_default.ensures, c.in-Known.is, ← c.or_default-2.ensures, c.in-Known-or_default.is, ← c.eq_value.ensures, c.in_default-eq_value.is)

@@ -1,5 +1,4 @@
 -- `comparison::logical_and` meets its contract.
-use borrow.Author.Rules.{rules}
 use Rattle.comparison.specs.Comparison.{logical_and_of}
 use Rattle.comparison.proofs.logical_and.Goals as goal
 

@@ -1,5 +1,4 @@
 -- `comparison::logical_nand` meets its contract.
-use borrow.Author.Rules.{rules}
 use Rattle.comparison.specs.Comparison.{logical_nand_of}
 use Rattle.comparison.proofs.logical_nand.Goals as goal
 

@@ -1,5 +1,4 @@
 -- `comparison::logical_nor` meets its contract.
-use borrow.Author.Rules.{rules}
 use Rattle.comparison.specs.Comparison.{logical_nor_of}
 use Rattle.comparison.proofs.logical_nor.Goals as goal
 

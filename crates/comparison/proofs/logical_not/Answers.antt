@@ -1,5 +1,4 @@
 -- `comparison::logical_not` meets its contract.
-use borrow.Author.Rules.{rules}
 use Rattle.comparison.specs.Comparison.{logical_not_of}
 use Rattle.comparison.proofs.logical_not.Goals as goal
 

@@ -1,5 +1,4 @@
 -- `comparison::logical_or` meets its contract.
-use borrow.Author.Rules.{rules}
 use Rattle.comparison.specs.Comparison.{logical_or_of}
 use Rattle.comparison.proofs.logical_or.Goals as goal
 

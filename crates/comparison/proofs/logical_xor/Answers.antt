@@ -1,5 +1,4 @@
 -- `comparison::logical_xor` meets its contract.
-use borrow.Author.Rules.{rules}
 use Rattle.comparison.specs.Comparison.{logical_xor_of}
 use Rattle.comparison.proofs.logical_xor.Goals as goal
 

@@ -1,8 +1,8 @@
 -- `comparison::order` meets its contract.
 use mathlib.Core.Path.{◌∙◌}
-use mathlib.Core.Logic.{⊎_elim}
-use Rattle.comparison.proofs.Laws.{order_as}
 use borrow.Author.Rules.{rules}
+use Rattle.comparison.proofs.Laws.{order_as}
+use Rattle.comparison.proofs.order.Goals.{in-Some+in_default-only_int, in_default}
 use Rattle.comparison.proofs.order.Goals as goal
 
 pub returns-in-Some-only_int : goal.returns-in-Some-only_int
@@ -11,7 +11,7 @@ returns-in-Some-only_int c = rw (← order_as, ← c.only_int.ensures, c.in-Some
 pub returns : goal.returns
 returns c =
     c.order_floats.ensures
-    ∙ ⊎_elim
-    (λ w. rw (← order_as, ← c.only_int.ensures, w.1.given.1, ← w.3.ensures, w.5.given.1))
-    (λ w. rw (← order_as, ← c.only_int.ensures, w.1.given.1))
-    c.match-only_int.branch
+    ∙ elim c.match-only_int.branch [
+      | in-Some+in_default-only_int w ↦ rw (← order_as, ← c.only_int.ensures, w.in-Some.is, ← w.only_int-in-Some.ensures, w.in_default-only_int.is)
+      | in_default w ↦ rw (← order_as, ← c.only_int.ensures, w.in_default.is)
+    ]

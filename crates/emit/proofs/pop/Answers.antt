@@ -5,26 +5,20 @@ use native.Mathlib.Omega.{arith}
 use borrow.Author.Rules.{rules}
 use Rattle.emit.proofs.pop.Goals as goal
 
-some-top : (c : goal.Else-top-eq0) → 0 < c.args.top
-some-top c = omega (arith, c.if-top-eq0.false)
-
 pub returns-then-top-eq0 : goal.returns-then-top-eq0
 returns-then-top-eq0 c = record { wire_is = λ h. absurd (omega (arith, c.if-top-eq0.true)); rest = λ h. absurd (omega (arith, c.if-top-eq0.true)); same = λ e. (refl, refl) }
 
 pub bounds-stack-at : goal.bounds-stack-at
 bounds-stack-at c = search (rules, c.requires.low)
 
--- unturned: c.before.before is the place After-way_told-1
 pub overflow_sub-wire : goal.overflow_sub-wire
-overflow_sub-wire c = omega (arith, c.wide-wire.ensures.0, c.requires.some_code (some-top (goal.at.overflow_sub-wire c).After-way_told-1))
+overflow_sub-wire c = omega (arith, c.wide-wire.ensures.0, c.requires.some_code (omega arith))
 
--- unturned: c.before.before.before is the place After-wide-arg-1
 pub bounds-next-wire : goal.bounds-next-wire
-bounds-next-wire c = omega (arith, c.wide-wire.ensures.0, c.requires.small (some-top (goal.at.bounds-next-wire c).After-wide-arg-1))
+bounds-next-wire c = omega (arith, c.wide-wire.ensures.0, c.requires.small (omega arith))
 
--- unturned: c.before.before.before.before is the place After-wide-arg-1
 pub push-height-requires : goal.push-height-requires
-push-height-requires c = omega (arith, c.requires.low, some-top (goal.at.push-height-requires c).After-wide-arg-1)
+push-height-requires c = omega (arith, c.requires.low)
 
 pub returns : goal.returns
 returns c =

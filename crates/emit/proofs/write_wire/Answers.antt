@@ -1,12 +1,9 @@
 -- `emit::write_wire` meets its contract.
--- where the source comes to, as it is defined
--- the target is not planned
 use mathlib.Core.Path.{◌≡◌, sym, ap, ◌∙◌}
 use mathlib.Core.List.{List}
 use Prim.Native.Nat.{ℕ}
 use native.Mathlib.Omega.{arith}
 use lib.ListN.{length, get_or}
-use borrow.Author.Rules.{rules}
 use Rattle.ir.specs.declared.Wire.{Wire}
 use Rattle.records.specs.Access.{wires_of, no_wire}
 use Rattle.model.specs.Rewrite.{follow}
@@ -15,13 +12,16 @@ use Rattle.rewrite.specs.Sources.{origin_of}
 use Rattle.emit.specs.Emit.{Prepared}
 use Rattle.emit.proofs.Writing.{origin_drops, kept_cycles, kept_from, written_one, written_nothing, traced}
 use Rattle.emit.proofs.write_wire.Goals as goal
+use Rattle.emit.proofs.write_wire.Goals.{After-origin}
 
-origin-is : (c : goal.After-origin) (details : List ℕ) → Prepared (wires_of c.args.wires.now) c.args.nodes c.args.actions.now details c.args.sources.now c.args.counts.now c.args.first.now c.args.next.now → origin_of (follow (shape_of (wires_of c.args.wires.now) c.args.actions.now details) c.args.nodes (get_or (wires_of c.args.wires.now) c.args.i no_wire).source) ≡ c.origin.result
+-- where the source comes to, as it is defined
+origin-is : (c : After-origin) (details : List ℕ) → Prepared (wires_of c.args.wires.now) c.args.nodes c.args.actions.now details c.args.sources.now c.args.counts.now c.args.first.now c.args.next.now → origin_of (follow (shape_of (wires_of c.args.wires.now) c.args.actions.now details) c.args.nodes (get_or (wires_of c.args.wires.now) c.args.i no_wire).source) ≡ c.origin.result
 origin-is c details R =
     sym (c.origin.ensures c.args.nodes details R.net.shaped R.origins
     ∙ ap (λ (w : Wire). origin_of (follow (shape_of (wires_of c.args.wires.now) c.args.actions.now details) c.args.nodes w.source)) c.wire-wire.ensures)
 
-kept-is : (c : goal.After-origin) → get_or c.args.actions.now (get_or (wires_of c.args.wires.now) c.args.i no_wire).target.node_id 0 ≡ 0
+-- the target is not planned
+kept-is : (c : After-origin) → get_or c.args.actions.now (get_or (wires_of c.args.wires.now) c.args.i no_wire).target.node_id 0 ≡ 0
 kept-is c = ap (λ (w : Wire). get_or c.args.actions.now w.target.node_id 0) (sym c.wire-wire.ensures) ∙ c.if-actions-node-ne-KEPT.false
 
 pub wire-wire-requires : goal.wire-wire-requires
@@ -32,12 +32,6 @@ bounds-actions-node c =
     let P = c.requires in
     omega (arith, ap (λ (w : Wire). w.target.node_id) c.wire-wire.ensures, (P.prepared.net.bounded.named c.args.i P.within).target, P.prepared.net.bounded.few_nodes)
 
-pub write_planned-requires : goal.write_planned-requires
-write_planned-requires c = c.requires
-
-pub returns-then-actions-node-ne-KEPT : goal.returns-then-actions-node-ne-KEPT
-returns-then-actions-node-ne-KEPT c = c.write_planned.ensures
-
 pub origin-requires : goal.origin-requires
 origin-requires c =
     let P = c.requires in (
@@ -45,28 +39,26 @@ origin-requires c =
       omega (arith, ap (λ (w : Wire). w.source.node_id) c.wire-wire.ensures, (P.prepared.net.bounded.named c.args.i P.within).source, P.prepared.net.bounded.few_nodes),
     )
 
--- unturned: c.before.before.before.before is the place After-origin
--- unturned: c.before.before.before.before is the place After-origin
 pub write_wire-requires : goal.write_wire-requires
 write_wire-requires c =
     let P = c.requires in
-    omega (arith, P.room, ap length (kept_from P.prepared c.args.i P.within (kept-is (goal.at.write_wire-requires c).After-origin) _ (origin-is (goal.at.write_wire-requires c).After-origin P.details P.prepared ∙ c.in-From.is)))
+    let o = (goal.at.write_wire-requires c).After-origin in
+    omega (arith, P.room, ap length (kept_from P.prepared c.args.i P.within (kept-is o) _ (origin-is o P.details P.prepared ∙ c.in-From.is)))
 
--- unturned: c.before.before is the place After-origin
--- unturned: c.before.before is the place After-origin
 pub returns-in-Cycles : goal.returns-in-Cycles
-returns-in-Cycles c = (c.requires.stack_long, λ details R. kept_cycles R c.args.i c.requires.within (kept-is (goal.at.returns-in-Cycles c).After-origin) (origin-is (goal.at.returns-in-Cycles c).After-origin details R ∙ c.in-Cycles.is))
+returns-in-Cycles c =
+    let o = (goal.at.returns-in-Cycles c).After-origin in
+    (c.requires.stack_long, λ details R. kept_cycles R c.args.i c.requires.within (kept-is o) (origin-is o details R ∙ c.in-Cycles.is))
 
--- unturned: c.before.before is the place After-origin
 pub returns-in-Drops : goal.returns-in-Drops
-returns-in-Drops c = (
-  c.requires.stack_long,
-  λ details R. written_nothing (origin_drops R c.args.i c.requires.within (origin-is (goal.at.returns-in-Drops c).After-origin details R ∙ c.in-Drops.is)) (omega (arith, c.requires.room)),
+returns-in-Drops c =
+    let o = (goal.at.returns-in-Drops c).After-origin in
+    (c.requires.stack_long, λ details R. written_nothing (origin_drops R c.args.i c.requires.within (origin-is o details R ∙ c.in-Drops.is)) (omega (arith, c.requires.room)))
 
--- unturned: c.before.before.before.before.before.before.before is the place After-origin
--- unturned: c.before.before.before.before.before.before.before is the place After-origin
 pub returns-in-From : goal.returns-in-From
-returns-in-From c = (
-  c.requires.stack_long,
-  λ details R.
-      written_one (kept_from R c.args.i c.requires.within (kept-is (goal.at.returns-in-From c).After-origin) _ (origin-is (goal.at.returns-in-From c).After-origin details R ∙ c.in-From.is)) (rw c.wire-wire.ensures at c.write_wire.ensures.written),
+returns-in-From c =
+    let o = (goal.at.returns-in-From c).After-origin in (
+      c.requires.stack_long,
+      λ details R.
+          written_one (kept_from R c.args.i c.requires.within (kept-is o) _ (origin-is o details R ∙ c.in-From.is)) (rw c.wire-wire.ensures at c.write_wire.ensures.written),
+    )

@@ -14,9 +14,6 @@ absolute (inf false) = refl
 absolute (fin true m e) = refl
 absolute (fin false m e) = refl
 
-pub is_sign_negative-requires : goal.is_sign_negative-requires
-is_sign_negative-requires c = tt
-
 pub returns-then-is_sign_negative : goal.returns-then-is_sign_negative
 returns-then-is_sign_negative c = rw (sym c.is_sign_negative.ensures ∙ c.if-is_sign_negative.true) at (absolute c.args.x)
 

@@ -15,16 +15,10 @@ use Rattle.extended.proofs.clamp_ints.Goals as goal
 read_clamp : {n lo hi : ℤ} → SFits w64 n → SFits w64 lo → SFits w64 hi → clamp_int (read_back n) (read_back lo) (read_back hi) ≡ clamp_int n lo hi
 read_clamp {n} {lo} {hi} f g h = read₂ (λ (x y : ℤ). clamp_int x y (read_back hi)) f g ∙ ap (clamp_int n lo) (to_z-of_z h)
 
-pub clamp_int-requires : goal.clamp_int-requires
-clamp_int-requires c = tt
-
--- unturned: s.before.before.before is the place In-Some-b-2
 pub returns : goal.returns
 returns c =
-    let t = (goal.at.returns c).In-Some-b-2 in
-    let u = t.before.before.before in
-    let f : mag u.a.given.0.0 < 2 ^ 63 = search rules in
-    let g : mag t.b.given.0.0 < 2 ^ 63 = search rules in
+    let f : mag c.in-Some.n < 2 ^ 63 = search rules in
+    let g : mag c.in-Some-b.lo < 2 ^ 63 = search rules in
     let h : mag c.in-Some-c.hi < 2 ^ 63 = search rules in
-    rw (u.a.given.1, t.b.given.1, c.in-Some-c.is)
-    (ap OptionInt.Some (to_z-of_z (sfits_of c.clamp_int.type-inv) ∙ c.clamp_int.ensures ∙ read_clamp (sfits_of f) (sfits_of g) (sfits_of h)))
+    rw (c.in-Some.is, c.in-Some-b.is, c.in-Some-c.is)
+    (ap OptionInt.Some (to_z-of_z {w = w64} (sfits_of c.clamp_int.type_inv) ∙ c.clamp_int.ensures ∙ read_clamp (sfits_of f) (sfits_of g) (sfits_of h)))

@@ -3,9 +3,6 @@ use mathlib.Core.Path.{sym, ◌∙◌}
 use Rattle.extended.specs.Extended.{given_finite}
 use Rattle.extended.proofs.finite.Goals as goal
 
-pub is_finite-requires : goal.is_finite-requires
-is_finite-requires c = tt
-
 pub returns-then-is_finite : goal.returns-then-is_finite
 unfolding given_finite
 returns-then-is_finite c = rw (sym c.is_finite.ensures ∙ c.if-is_finite.true)

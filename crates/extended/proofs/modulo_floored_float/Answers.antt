@@ -2,8 +2,5 @@
 use borrow.Author.Rules.{rules}
 use Rattle.extended.proofs.modulo_floored_float.Goals as goal
 
-pub floor-requires : goal.floor-requires
-floor-requires c = tt
-
 pub returns : goal.returns
 returns c = search (rules, c.floor.ensures)

@@ -6,12 +6,6 @@ pub returns-then-x-y : goal.returns-then-x-y
 unfolding precedes
 returns-then-x-y c = rw c.if-x-y.true
 
-pub is_sign_negative-requires : goal.is_sign_negative-requires
-is_sign_negative-requires c = tt
-
-pub is_sign_negative-requires-then-x-y-2 : goal.is_sign_negative-requires-then-x-y-2
-is_sign_negative-requires-then-x-y-2 c = tt
-
 pub returns-then-x-y-2 : goal.returns-then-x-y-2
 unfolding precedes
 returns-then-x-y-2 c = rw (c.if-x-y.false, c.if-x-y-2.true, c.is_sign_negative.ensures, c.is_sign_negative-then-x-y-2.ensures)

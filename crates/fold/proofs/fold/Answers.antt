@@ -8,7 +8,7 @@ use borrow.Author.Rules.{rules}
 use Rattle.fold.proofs.fold.Goals as goal
 
 pub slice_bounds-write_all-end : goal.slice_bounds-write_all-end
-slice_bounds-write_all-end c = omega (arith, c.fold.ensures.fits, ap (λ (o : Outcome). (numbers o).length) c.in-Folded.is, c.out-1.given)
+slice_bounds-write_all-end c = omega (arith, c.fold.ensures.fits, ap (λ (o : Outcome). (numbers o).length) c.in-Folded.is)
 
 pub slice_bounds-write_all-end-in-Folded : goal.slice_bounds-write_all-end-in-Folded
-slice_bounds-write_all-end-in-Folded c = sym (length-take-le _ _ (omega (arith, c.fold.ensures.fits, ap (λ (o : Outcome). (numbers o).length) c.in-Folded.is, c.out-1.given)))
+slice_bounds-write_all-end-in-Folded c = sym (length-take-le _ _ (omega (arith, c.fold.ensures.fits, ap (λ (o : Outcome). (numbers o).length) c.in-Folded.is)))

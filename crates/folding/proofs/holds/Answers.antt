@@ -1,13 +1,23 @@
 -- `folding::holds` meets its contract.
--- what is taken off the room is added to the size
 use native.Mathlib.Omega.{arith}
 use mathlib.Core.Path.{◌≡◌, refl, sym, ◌∙◌}
 use mathlib.Core.Bool.{Bool, true, false}
 use Prim.Native.Nat.{ℕ, ◌+◌, ◌-◌, ◌≤◌, ◌<◌}
 use lib.Dec.{leb}
-use borrow.Author.Rules.{rules}
 use borrow.Author.Tests.{leb-true, leb-false, le-leb, lt-leb}
 use Rattle.folding.proofs.holds.Goals as goal
+
+-- what is taken off the room is added to the size
+module _ (size more room : ℕ) where
+  moved : more ≤ room → leb size (room - more) ≡ leb (size + more) room
+  moved h = go (leb size (room - more)) refl
+    where
+      go : (b : Bool) → leb size (room - more) ≡ b → b ≡ leb (size + more) room
+      go true e = sym (le-leb (size + more) room (omega (arith, leb-true size (room - more) e)))
+      go false e = sym (lt-leb (size + more) room (omega (arith, leb-false size (room - more) e)))
+
+  over : room < more → false ≡ leb (size + more) room
+  over h = sym (lt-leb (size + more) room (omega arith))
 
 pub returns-then-room-wires : goal.returns-then-room-wires
 returns-then-room-wires c words = over _ _ _ c.if-room-wires.true

@@ -1,46 +1,43 @@
 -- `folding::write_answer` meets its contract.
--- there is room for all of it
 use mathlib.Core.Path.{refl, sym, ◌∙◌}
 use Prim.Native.Nat.{◌+◌, ◌*◌, ◌≤◌}
 use native.Mathlib.Omega.{arith}
 use lib.ListN.{length}
 use borrow.Author.Rules.{rules}
-use borrow.Author.Tests.{leb-true, leb-false, not-true, not-false}
+use borrow.Author.Tests.{leb-true, leb-false}
 use Rattle.records.proofs.Laid.{few_nodes}
 use Rattle.model.specs.Inputs.{size}
 use Rattle.answer.specs.Nodes.{known_records, fate_records}
 use Rattle.propagation.proofs.Accepted.{nodes_are}
 use Rattle.folding.proofs.Stages.{nodes_room, refuse_many, long_at, ready_at, wires_at_lem, folded_at}
 use Rattle.folding.proofs.write_answer.Goals as goal
+use Rattle.folding.proofs.write_answer.Goals.{Start, Else-not-holds}
 
-few : (c : goal.Start) → c.args.counts.nodes ≤ 1024
+few : (c : Start) → c.args.counts.nodes ≤ 1024
 unfolding size
 few c = omega (arith, nodes_are _ _ c.requires.worked.settled.accepts, few_nodes c.args.input.now)
 
-room : (c : goal.Else-not-holds) → length (known_records c.args.kinds.now c.args.words.now c.args.counts.nodes) + length (fate_records c.args.kinds.now c.args.words.now c.args.actions.now c.args.counts.nodes) + 7 * c.args.count ≤ length c.args.out.now
-room c = leb-true _ _ (sym (c.holds.ensures c.args.words.now) ∙ not-false _ c.if-not-holds.false)
+-- there is room for all of it
+room : (c : Else-not-holds) → length (known_records c.args.kinds.now c.args.words.now c.args.counts.nodes) + length (fate_records c.args.kinds.now c.args.words.now c.args.actions.now c.args.counts.nodes) + 7 * c.args.count ≤ length c.args.out.now
+room c = leb-true _ _ (sym (c.holds.ensures c.args.words.now) ∙ c.if-not-holds.false)
 
 pub returns-then-count-gt-WIRES : goal.returns-then-count-gt-WIRES
 returns-then-count-gt-WIRES c = record { law = λ own S. refuse_many S c.requires.counted c.if-count-gt-WIRES.true }
 
--- unturned: c.before.before.before is the place Start
 pub holds-requires : goal.holds-requires
 holds-requires c = (few (goal.at.holds-requires c).Start, c.if-count-gt-WIRES.false, c.requires.worked.settled.finished.holds.kinds_listed)
 
 pub returns-then-not-holds : goal.returns-then-not-holds
 returns-then-not-holds c =
     let P = c.requires in
-    record { law = λ own S. long_at S P.counted c.if-count-gt-WIRES.false c.args.counts.nodes _ (nodes_are _ _ P.worked.settled.accepts) refl refl (leb-false _ _ (sym (c.holds.ensures c.args.words.now) ∙ not-true _ c.if-not-holds.true)) }
+    record { law = λ own S. long_at S P.counted c.if-count-gt-WIRES.false c.args.counts.nodes _ (nodes_are _ _ P.worked.settled.accepts) refl refl (leb-false _ _ (sym (c.holds.ensures c.args.words.now) ∙ c.if-not-holds.true)) }
 
 pub wires-wires-requires : goal.wires-wires-requires
 wires-wires-requires c = c.requires.worked.settled.accepts
 
--- unturned: c.before.before.before.before.before.before.before is the place Start
--- unturned: c.before.before is the place Else-not-holds
 pub write_nodes-past-requires : goal.write_nodes-past-requires
 write_nodes-past-requires c = (few (goal.at.write_nodes-past-requires c).Start, omega (arith, room (goal.at.write_nodes-past-requires c).Else-not-holds), c.requires.worked.settled.finished.holds.kinds_listed)
 
--- unturned: c.before.before.before.before.before.before is the place Else-not-holds
 pub write_wires-length-requires : goal.write_wires-length-requires
 write_wires-length-requires c =
     let P = c.requires in
@@ -54,7 +51,6 @@ write_wires-length-requires c =
       room = omega (arith, w, wires_at_lem P.worked.settled P.counted l _ _ e c.wires-wires.ensures.wires);
     }
 
--- unturned: c.before.before.before.before.before.before.before.before.before.before is the place Else-not-holds
 pub returns : goal.returns
 returns c =
     let P = c.requires in

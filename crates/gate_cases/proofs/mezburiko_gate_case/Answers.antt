@@ -8,6 +8,5 @@ pub write_given-requires : goal.write_given-requires
 unfolding zeros
 write_given-requires c = refl
 
--- unturned: c.before.before.before.before.before.before.before.Operand-at.ensures
 pub returns : goal.returns
-returns c = rw (c.write_given.ensures, c.eval_in.ensures.rule, c.operand_at-c.ensures, c.operand_at-b.ensures, c.before.before.before.before.before.before.before.Operand-at.ensures)
+returns c = rw (c.write_given.ensures, c.eval_in.ensures.rule, c.operand_at-c.ensures, c.operand_at-b.ensures, c.operand_at-a.ensures)

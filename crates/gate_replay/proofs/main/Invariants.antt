@@ -1,10 +1,9 @@
 -- `gate_replay::main` meets its contract.
 use Prim.Native.Nat.{◌-◌, ◌≤◌}
-use borrow.Author.Rules.{rules}
 use Rattle.gate_replay.proofs.main.Given as goal
 
 abbrev pub invariant-loop-ran : goal.invariant-loop-ran
-invariant-loop-ran l = (?differ ≤ ?ran) × (?ran ≤ 1000000)
+invariant-loop-ran l = (l.differ ≤ l.ran) × (l.ran ≤ 1000000)
 
 abbrev pub decreases-loop-ran : goal.decreases-loop-ran
-decreases-loop-ran l = 1000000 - ?ran
+decreases-loop-ran l = 1000000 - l.ran

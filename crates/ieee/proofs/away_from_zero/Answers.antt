@@ -1,5 +1,5 @@
 -- `ieee::away_from_zero` meets its contract.
-use Rattle.std.proofs.Common.{true, false, rules}
+use Rattle.std.proofs.Common.{true, false}
 use denote.Floats.{passes}
 use Rattle.ieee.specs.declared.Direction.TheVariants.{TowardZero}
 use Rattle.ieee.proofs.Truncation.{away}

@@ -1,5 +1,4 @@
 -- `ieee::decompose` meets its contract.
-use Rattle.std.proofs.Common.{rules}
 use denote.Floats.{passes}
 use Rattle.ieee.proofs.Units.{parts_low, parts_high}
 use Rattle.ieee.proofs.decompose.Goals as goal

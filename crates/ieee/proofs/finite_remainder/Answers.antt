@@ -1,5 +1,5 @@
 -- `ieee::finite_remainder` meets its contract.
-use Rattle.std.proofs.Common.{lt_trans, mod-lt, arith, rules}
+use Rattle.std.proofs.Common.{lt_trans, mod-lt, arith}
 use denote.Floats.{passes}
 use lib.Ieee.{div, of_bits}
 use Rattle.ieee.proofs.Units.{rem_below, rem_positive, rem_negative, rem_by_zero}
@@ -18,16 +18,10 @@ scaled-magnitude-requires c =
     let d = c.decompose-b in
     (rw c.shl_mod-r.ensures (lt_trans (mod-lt _ (omega arith)) d.ensures.digits), d.ensures.exponent)
 
--- unturned: s.before.before.before is the place Else-a-b
 pub returns-then-a : goal.returns-then-a
 returns-then-a c =
-    let a = (goal.at.returns-then-a c).Else-a-b in
-    let b = a.before.before.before in
-    rem_negative _ _ _ _ _ _ _ _ _ _ b.before.before.before.decompose.ensures b.before.before.decompose2.ensures b.if1.false a.if2.false c.shl_mod-r.ensures c.scaled-magnitude.ensures c.if-a.true
+    rem_negative _ _ _ _ _ _ _ _ _ _ c.decompose-a.ensures c.decompose-b.ensures c.if-b-eq0.false c.if-a-b.false c.shl_mod-r.ensures c.scaled-magnitude.ensures c.if-a.true
 
--- unturned: s.before.before.before is the place Else-a-b
 pub returns-else-a : goal.returns-else-a
 returns-else-a c =
-    let a = (goal.at.returns-else-a c).Else-a-b in
-    let b = a.before.before.before in
-    rem_positive _ _ _ _ _ _ _ _ _ _ b.before.before.before.decompose.ensures b.before.before.decompose2.ensures b.if1.false a.if2.false c.shl_mod-r.ensures c.scaled-magnitude.ensures c.if-a.false
+    rem_positive _ _ _ _ _ _ _ _ _ _ c.decompose-a.ensures c.decompose-b.ensures c.if-b-eq0.false c.if-a-b.false c.shl_mod-r.ensures c.scaled-magnitude.ensures c.if-a.false

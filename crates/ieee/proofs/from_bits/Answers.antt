@@ -1,5 +1,4 @@
 -- `ieee::from_bits` meets its contract.
--- the code's test
 use Rattle.std.proofs.Common.{◌≡◌, ℕ, ◌≤◌, Bool, not, T, ltb, sym, refl, ap, ◌∙◌, subst, arith, lt→ltb}
 use lib.Arith.{le→nltb}
 use lib.Bits.{bit_and, and_mask}
@@ -8,6 +7,7 @@ use lib.Ieee.Bits.{nan_bits_is, nan_bits_above}
 use Rattle.ieee.proofs.Bits.{bits_of_of_bits}
 use Rattle.ieee.proofs.from_bits.Goals as goal
 
+-- the code's test
 test : (n : ℕ) → ltb 0x7ff0_0000_0000_0000 (bit_and n 0x7fff_ffff_ffff_ffff) ≡ nan_bits binary64 n
 test n = ap (ltb 0x7ff0_0000_0000_0000) (and_mask n 63) ∙ sym (nan_bits_above binary64 n)
 
@@ -26,7 +26,7 @@ float_from_bits-result c = no_nan c.args.bits (omega (arith, c.if-bits-gt-INFINI
 pub returns-then-bits-gt-INFINITY : goal.returns-then-bits-gt-INFINITY
 returns-then-bits-gt-INFINITY c =
     let e = quotient _ (subst T (test c.args.bits ∙ nan_bits_is binary64 c.args.bits) (lt→ltb _ _ c.if-bits-gt-INFINITY.true)) in
-    (e, bits_of_of_bits _ (omega arith) e)
+    record { value = e; back = bits_of_of_bits _ (omega arith) e }
 
 pub returns-else-bits-gt-INFINITY : goal.returns-else-bits-gt-INFINITY
-returns-else-bits-gt-INFINITY c = (refl, bits_of_of_bits _ (omega arith) refl)
+returns-else-bits-gt-INFINITY c = record { value = refl; back = bits_of_of_bits _ (omega arith) refl }

@@ -1,5 +1,5 @@
 -- `ieee::power` meets its contract.
-use Rattle.std.proofs.Common.{◌≡◌, ◌*◌, ◌%◌, ◌^◌, false, ap, ◌∙◌, one-mul, arith, lit<, shl_exact, rules}
+use Rattle.std.proofs.Common.{◌≡◌, ◌*◌, ◌%◌, ◌^◌, false, ap, ◌∙◌, one-mul, arith, lit<, shl_exact}
 use mathlib.Core.Path.{subst⁻¹}
 use lib.Ieee.{Float, binary64, of_bits}
 use lib.Ieee.Exact.{HasValue}

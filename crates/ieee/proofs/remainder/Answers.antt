@@ -1,19 +1,15 @@
 -- `ieee::remainder` meets its contract.
-use Rattle.std.proofs.Common.{◌≡◌, Bool, true, false, not, sym, refl, ap, ◌∙◌, true≢false, rules}
+use Rattle.std.proofs.Common.{◌≡◌, true, false, sym, refl, ◌∙◌, true≢false}
 use mathlib.Core.Bool.{false≢true}
 use lib.Ieee.{Float, nan, inf, fin, binary64, div, of_bits, rem, eq}
 use Rattle.ieee.specs.Finite.{finite_of}
 use Rattle.ieee.proofs.remainder.Goals as goal
 
-finite : (r b : Bool) → r ≡ b → not r ≡ false → b ≡ true
-finite true b e h = sym e
-finite false b e h = absurd (true≢false h)
-
-of_special : (x y : Float) → not (finite_of x) ≡ true → div binary64 (of_bits binary64 0) (of_bits binary64 0) ≡ rem binary64 x y
+of_special : (x y : Float) → finite_of x ≡ false → div binary64 (of_bits binary64 0) (of_bits binary64 0) ≡ rem binary64 x y
 unfolding finite_of rem div of_bits
 of_special nan y h = refl
 of_special (inf s) y h = refl
-of_special (fin s m e) y h = absurd (false≢true h)
+of_special (fin s m e) y h = absurd (true≢false h)
 
 by_infinity : (x y : Float) → finite_of x ≡ true → finite_of y ≡ false → eq y y ≡ true → x ≡ rem binary64 x y
 unfolding finite_of eq rem
@@ -33,13 +29,13 @@ by_nan (fin s m d) (inf false) h k e = absurd (true≢false e)
 by_nan (fin s m d) (fin t n g) h k e = absurd (true≢false k)
 
 pub returns-then-not-is_finite : goal.returns-then-not-is_finite
-returns-then-not-is_finite c = of_special _ _ (sym (ap not c.is_finite.ensures) ∙ c.if-not-is_finite.true)
+returns-then-not-is_finite c = of_special _ _ (sym c.is_finite.ensures ∙ c.if-not-is_finite.true)
 
 pub finite_remainder-requires : goal.finite_remainder-requires
-finite_remainder-requires c = (finite _ _ c.is_finite.ensures c.if-not-is_finite.false, sym c.is_finite-2.ensures ∙ c.if-is_finite.true)
+finite_remainder-requires c = (sym c.is_finite.ensures ∙ c.if-not-is_finite.false, sym c.is_finite-2.ensures ∙ c.if-is_finite.true)
 
 pub returns-then-y : goal.returns-then-y
-returns-then-y c = by_infinity _ _ (finite _ _ c.is_finite.ensures c.if-not-is_finite.false) (sym c.is_finite-2.ensures ∙ c.if-is_finite.false) c.if-y.true
+returns-then-y c = by_infinity _ _ (sym c.is_finite.ensures ∙ c.if-not-is_finite.false) (sym c.is_finite-2.ensures ∙ c.if-is_finite.false) c.if-y.true
 
 pub returns-else-y : goal.returns-else-y
-returns-else-y c = by_nan _ _ (finite _ _ c.is_finite.ensures c.if-not-is_finite.false) (sym c.is_finite-2.ensures ∙ c.if-is_finite.false) c.if-y.false
+returns-else-y c = by_nan _ _ (sym c.is_finite.ensures ∙ c.if-not-is_finite.false) (sym c.is_finite-2.ensures ∙ c.if-is_finite.false) c.if-y.false

@@ -1,5 +1,4 @@
 -- `ieee::round_positive` meets its contract.
-use Rattle.std.proofs.Common.{rules}
 use Rattle.ieee.proofs.round_positive.Goals as goal
 
 pub returns-in-TowardZero : goal.returns-in-TowardZero

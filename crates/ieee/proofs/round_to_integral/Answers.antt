@@ -1,5 +1,5 @@
 -- `ieee::round_to_integral` meets its contract.
-use Rattle.std.proofs.Common.{ap, ◌∙◌, rules}
+use Rattle.std.proofs.Common.{ap, ◌∙◌}
 use denote.Floats.{passes}
 use lib.Ieee.{neg}
 use Rattle.ieee.proofs.Integral.{integral_neg}

@@ -1,5 +1,5 @@
 -- `ieee::scaled` meets its contract.
-use Rattle.std.proofs.Common.{◌^◌, ◌≤◌, false, zero-lt-suc, arith, le→leb, pow_pos, rules}
+use Rattle.std.proofs.Common.{◌^◌, ◌≤◌, false, zero-lt-suc, arith, le→leb, pow_pos}
 use lib.Ieee.{binary64, in_float, of_int, round}
 use lib.Ieee.Back.{round_whole}
 use Rattle.ieee.proofs.Units.{product}

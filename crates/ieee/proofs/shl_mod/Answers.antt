@@ -1,5 +1,5 @@
 -- `ieee::shl_mod` meets its contract.
-use Rattle.std.proofs.Common.{ℕ, ◌*◌, ◌%◌, ◌^◌, ap, ◌∙◌, arith, shl_exact, rules}
+use Rattle.std.proofs.Common.{ℕ, ◌*◌, ◌%◌, ◌^◌, ap, ◌∙◌, arith, shl_exact}
 use Rattle.ieee.proofs.Units.{factor_mod}
 use Rattle.ieee.proofs.shl_mod.Goals as goal
 

@@ -3,18 +3,11 @@ use Prim.Native.Nat.{ℕ, ◌+◌, ◌*◌}
 use native.Mathlib.Omega.{arith}
 use mathlib.Core.Path.{ap}
 use lib.ListN.{get_or}
-use borrow.Author.Rules.{rules}
 use Rattle.inputs.proofs.Chains.{feeds_none, feeds_one, feeds_many}
 use Rattle.inputs.proofs.feeds_of.Goals as goal
 
-pub wide-requires : goal.wide-requires
-wide-requires c = tt
-
 pub returns-then-code-eq0 : goal.returns-then-code-eq0
 returns-then-code-eq0 c = feeds_none _ _ _ (ap (λ (p : ℕ). get_or c.args.first.now (c.args.node * 11 + p) 0) c.wide.ensures.0) c.if-code-eq0.true
-
-pub wide_number-requires : goal.wide_number-requires
-wide_number-requires c = tt
 
 pub bounds-next-wide_number : goal.bounds-next-wide_number
 bounds-next-wide_number c =

@@ -4,7 +4,6 @@ use mathlib.Core.Option.{Option}
 use Rattle.value.specs.declared.Value.{Value}
 use Rattle.value.specs.declared.OptionValue.{OptionValue}
 use Rattle.model.specs.Inputs.{optional, property, carried, operand_of}
-use borrow.Author.Rules.{rules}
 use Rattle.inputs.proofs.load_operand.Goals as goal
 
 pub load-requires : goal.load-requires

@@ -6,7 +6,6 @@ use Rattle.inputs.proofs.Ports.{wired, few, data_port, single_port}
 use Rattle.inputs.proofs.Chains.{port_code, port_says, source_node_lem, resolve_none, resolve_many}
 use Rattle.inputs.proofs.Conditions.{has_input, no_input}
 use Rattle.inputs.proofs.Locations.{same_input, same_lookup, finds, finds_none, unwired}
-use borrow.Author.Rules.{rules}
 use Rattle.inputs.proofs.locate.Goals as goal
 
 pub feeds_of-requires : goal.feeds_of-requires

@@ -12,20 +12,19 @@ use Rattle.graph.proofs.Added.{entry_none, entry_some}
 use Rattle.graph.proofs.Roles.{size_by_lem}
 use Rattle.model.specs.Inputs.{optional, property}
 use Rattle.inputs.proofs.Locations.{unwired, at_property}
-use borrow.Author.Rules.{rules}
 use Rattle.inputs.proofs.locate_property.Goals as goal
+use Rattle.inputs.proofs.locate_property.Goals.{After-wide_number-at, Else-at-eq0}
 
-entry : (c : goal.After-wide_number-at) → c.wide_number-at.result ≡ get_or c.args.table.now (slot c.args.node c.args.port) 0
+entry : (c : After-wide_number-at) → c.wide_number-at.result ≡ get_or c.args.table.now (slot c.args.node c.args.port) 0
 entry c =
     let a = c.args in
     c.wide_number-at.ensures.0 ∙ ap (λ (p : ℕ). get_or a.table.now (a.node * 11 + p) 0) c.wide.ensures.0
 
--- unturned: c.before.before is the place After-wide_number-at
--- unturned: c.before.before is the place After-wide_number-at
-stands : (c : goal.After-shared_slice_known-2-1) → IsProperty c.args.input.now c.wide_number-at.result
-stands c = rw (entry c.before.before) (c.requires.2.stands _ (omega (arith, entry c.before.before, c.if-at-eq0.false)))
+stands : (c : Else-at-eq0) → IsProperty c.args.input.now c.wide_number-at.result
+stands c =
+    let e : c.wide_number-at.result ≡ get_or c.args.table.now (slot c.args.node c.args.port) 0 = cc in
+    rw e (c.requires.2.stands _ (omega arith))
 
--- unturned: c.before.before is the place After-wide_number-at
 pub returns-then-at-eq0 : goal.returns-then-at-eq0
 unfolding property
 returns-then-at-eq0 c known =
@@ -35,16 +34,14 @@ returns-then-at-eq0 c known =
     rw (c.nowhere.ensures, ← e) (unwired _ known)
 
 pub bounds-input-at : goal.bounds-input-at
-bounds-input-at c = omega (arith, (stands c).within)
+bounds-input-at c = omega (arith, (stands (goal.at.bounds-input-at c).Else-at-eq0).within)
 
--- unturned: c.before is the place After-shared_slice_known-2-1
 pub read_word-requires : goal.read_word-requires
 read_word-requires c =
-    let p = stands (goal.at.read_word-requires c).After-shared_slice_known-2-1 in
+    let p = stands (goal.at.read_word-requires c).Else-at-eq0 in
     let k = byte c.args.input.now c.wide_number-at.result in
     (p.role, omega (arith, p.within, size_by_lem k, ap size_by p.role))
 
--- unturned: c.before.before.before.before is the place After-wide_number-at
 pub returns : goal.returns
 unfolding property
 returns c known =

@@ -2,7 +2,6 @@
 use native.Mathlib.Omega.{arith}
 use mathlib.Core.Path.{sym, ◌∙◌}
 use Rattle.inputs.proofs.Locations.{unwired_operand}
-use borrow.Author.Rules.{rules}
 use Rattle.inputs.proofs.operand_at.Goals as goal
 
 pub returns-then-located-eq-UNWIRED : goal.returns-then-located-eq-UNWIRED

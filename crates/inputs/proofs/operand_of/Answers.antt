@@ -1,5 +1,4 @@
 -- `inputs::operand_of` meets its contract.
-use borrow.Author.Rules.{rules}
 use Rattle.inputs.proofs.operand_of.Goals as goal
 
 pub returns : goal.returns

@@ -8,7 +8,6 @@ use Rattle.ir.specs.Kinds.{role_of}
 use Rattle.ir.specs.declared.Role.TheVariants.{Property}
 use Rattle.encoding.specs.Values.{value_size}
 use Rattle.encoding.proofs.Sizes.{by_kind}
-use borrow.Author.Rules.{rules}
 use Rattle.inputs.proofs.read_word.Goals as goal
 
 eight : (k : ℕ) → role_of k ≡ Property → (k ≡ 5 → ⊥) → 8 ≤ value_size k

@@ -2,7 +2,6 @@
 use Rattle.inputs.proofs.Ports.{few as few_nodes}
 use Rattle.inputs.proofs.Conditions.{has_one}
 use Rattle.inputs.proofs.Locations.{few, condition_covered, condition_uncovered, condition_unresolved}
-use borrow.Author.Rules.{rules}
 use Rattle.inputs.proofs.resolve_condition.Goals as goal
 
 pub locate-requires : goal.locate-requires

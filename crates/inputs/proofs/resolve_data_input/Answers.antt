@@ -12,31 +12,16 @@ feeds_of-requires c =
     let n = few p.0 p.1 in
     (n, p.2, port_code (wired p.0) _ _ n p.2)
 
-pub enum_told-1 : goal.enum_told-1
-enum_told-1 c = c.in-None.keys1
-
 pub property-requires : goal.property-requires
 property-requires c =
     let p = c.requires in
     (few p.0 p.1, p.2, p.0.properties)
-
-pub or_property-requires : goal.or_property-requires
-or_property-requires c = tt
-
-pub enum_known-wire : goal.enum_known-wire
-enum_known-wire c = c.in-One.keys2
 
 pub source_value-requires : goal.source_value-requires
 source_value-requires c =
     let p = c.requires in
     let s = rw c.in-One.is at (port_says (wired p.0) _ _ (few p.0 p.1) p.2 _ c.feeds_of.ensures) in
     (s.0, source_node_lem (wired p.0) _ s.0)
-
-pub carried-requires : goal.carried-requires
-carried-requires c = tt
-
-pub enum_told-in-Many : goal.enum_told-in-Many
-enum_told-in-Many c = c.in-Many.keys3
 
 pub returns-in-None : goal.returns-in-None
 returns-in-None c =

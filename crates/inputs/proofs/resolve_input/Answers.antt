@@ -6,22 +6,10 @@ use Rattle.inputs.proofs.resolve_input.Goals as goal
 pub feeds_of-requires : goal.feeds_of-requires
 feeds_of-requires c = (c.requires.1, c.requires.2, port_code c.requires.0 _ _ c.requires.1 c.requires.2)
 
-pub enum_told-1 : goal.enum_told-1
-enum_told-1 c = c.in-None.keys1
-
-pub enum_known-wire : goal.enum_known-wire
-enum_known-wire c = c.in-One.keys2
-
 pub source_value-requires : goal.source_value-requires
 source_value-requires c =
     let s = rw c.in-One.is at (port_says c.requires.0 _ _ c.requires.1 c.requires.2 _ c.feeds_of.ensures) in
     (s.0, source_node_lem c.requires.0 _ s.0)
-
-pub carried-requires : goal.carried-requires
-carried-requires c = tt
-
-pub enum_told-in-Many : goal.enum_told-in-Many
-enum_told-in-Many c = c.in-Many.keys3
 
 pub returns-in-None : goal.returns-in-None
 returns-in-None c = resolve_none _ (rw c.in-None.is at (port_says c.requires.0 _ _ c.requires.1 c.requires.2 _ c.feeds_of.ensures))

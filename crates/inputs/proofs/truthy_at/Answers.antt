@@ -3,7 +3,6 @@ use native.Mathlib.Omega.{arith}
 use mathlib.Core.Path.{sym, ap, ◌∙◌}
 use Rattle.conversions.specs.Conversions.{truthy_of}
 use Rattle.inputs.proofs.Locations.{unwired_operand}
-use borrow.Author.Rules.{rules}
 use Rattle.inputs.proofs.truthy_at.Goals as goal
 
 pub returns-then-located-eq-UNWIRED : goal.returns-then-located-eq-UNWIRED

@@ -1,13 +1,11 @@
 -- `propagation::propagate` meets its contract.
 use mathlib.Core.Path.{refl, sym, ap, ap₂, ◌∙◌}
-use borrow.Author.Rules.{rules}
 use Rattle.graph.specs.Refusals.{report_of, refusal}
 use Rattle.propagation.proofs.Accepted.{refused_is}
 use Rattle.propagation.proofs.propagate.Goals as goal
 
--- unturned: c.before.before.before.before.before.before.before.before.before.before.before is the place In-Accepted-2
 pub propagate_graph-pops-requires : goal.propagate_graph-pops-requires
-propagate_graph-pops-requires c = let m = (goal.at.propagate_graph-pops-requires c).In-Accepted-2 in let d = m.before.before in (sym (ap report_of m.counts.given.1) ∙ d.decode.ensures.0, d.decode.ensures.1, c.clear.ensures _)
+propagate_graph-pops-requires c = (sym (ap report_of c.in-Accepted.is) ∙ c.decode.ensures.0, c.decode.ensures.1, c.clear.ensures _)
 
 pub returns-in-Accepted : goal.returns-in-Accepted
 returns-in-Accepted c = c.propagate_graph-pops.ensures

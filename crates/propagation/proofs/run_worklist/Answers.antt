@@ -1,5 +1,4 @@
 -- `propagation::run_worklist` meets its contract.
-use borrow.Author.Rules.{rules}
 use Rattle.propagation.proofs.Accepted.{reads_at}
 use Rattle.propagation.proofs.run_worklist.Goals as goal
 

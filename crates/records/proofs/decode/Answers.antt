@@ -14,11 +14,12 @@ use Rattle.graph.proofs.Asked.{passed}
 use Rattle.graph.proofs.Added.{few_texts}
 use Rattle.graph.proofs.Roles.{size_by_lem}
 use Rattle.records.proofs.decode.Goals as goal
+use Rattle.records.proofs.decode.Goals.{In_default}
 
-ok : (c : goal.In_default) → refusal_at c.loop-at.last c.loop-at.invariant.graph c.args.input.now c.loop-at.at ≡ 0
+ok : (c : In_default) → refusal_at c.loop-at.last c.loop-at.invariant.graph c.args.input.now c.loop-at.at ≡ 0
 ok c = sym (rw c.in_default.is at (c.check.ensures c.loop-at.invariant.graph c.loop-at.invariant.held))
 
-sound : (c : goal.In_default) → Sound c.loop-at.counts.nodes (role_at c.args.input.now c.loop-at.at) c.args.input.now c.loop-at.at
+sound : (c : In_default) → Sound c.loop-at.counts.nodes (role_at c.args.input.now c.loop-at.at) c.args.input.now c.loop-at.at
 sound c =
     let p = passed _ _ _ _ (ok c) in
     let i = c.loop-at.invariant in
@@ -45,16 +46,15 @@ bounds-input-at c = c.loop-at-test.true
 pub role_of-role-requires : goal.role_of-role-requires
 role_of-role-requires c = tt
 
--- unturned: c.before.before.before is the place In_default
--- unturned: c.before.before.before is the place In_default
 pub index-requires : goal.index-requires
 index-requires c =
     let p = passed _ _ _ _ (ok (goal.at.index-requires c).In_default) in
     let i = c.loop-at.invariant in
-    ((c.role_of-role.ensures, p.whole, rw c.role_of-role.ensures (sound (goal.at.index-requires c).In_default)), (omega (arith, c.loop-at-test.true, c.if-input-gt-INPUT.false), rw i.held.counts i.begun))
+    record {
+      role_value = (c.role_of-role.ensures, p.whole, rw c.role_of-role.ensures (sound (goal.at.index-requires c).In_default));
+      at_bound = (omega (arith, c.loop-at-test.true, c.if-input-gt-INPUT.false), rw i.held.counts i.begun);
+    }
 
--- unturned: c.before.before.before.before is the place In_default
--- unturned: c.before.before.before.before is the place In_default
 pub count-counts-requires : goal.count-counts-requires
 count-counts-requires c =
     let p = passed _ _ _ _ (ok (goal.at.count-counts-requires c).In_default) in
@@ -64,20 +64,16 @@ count-counts-requires c =
 pub body_of-size-requires : goal.body_of-size-requires
 body_of-size-requires c = tt
 
--- unturned: c.before.before.before.before.before.before is the place In_default
 pub overflow_add-size : goal.overflow_add-size
 overflow_add-size c =
     let p = passed _ _ _ _ (ok (goal.at.overflow_add-size c).In_default) in
     omega (arith, c.body_of-size.ensures, p.whole, c.if-input-gt-INPUT.false)
 
--- unturned: c.before.before.before.before.before.before is the place In_default
 pub overflow_add-at : goal.overflow_add-at
 overflow_add-at c =
     let p = passed _ _ _ _ (ok (goal.at.overflow_add-at c).In_default) in
     omega (arith, c.body_of-size.ensures, p.whole, c.if-input-gt-INPUT.false)
 
--- unturned: c.before.before.before.before.before.before.before is the place In_default
--- unturned: c.before.before.before.before.before.before.before is the place In_default
 pub read_same-run-requires : goal.read_same-run-requires
 read_same-run-requires c =
     let i = c.loop-at.invariant in

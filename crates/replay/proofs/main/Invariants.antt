@@ -2,11 +2,10 @@
 use Prim.Native.Nat.{◌-◌, ◌≤◌}
 use mathlib.Core.Path.{◌≡◌}
 use lib.ListN.{length}
-use borrow.Author.Rules.{rules}
 use Rattle.replay.proofs.main.Given as goal
 
 abbrev pub invariant-loop-ran : goal.invariant-loop-ran
-invariant-loop-ran l = (?differ ≤ ?ran) × (?ran ≤ 1000000) × (48 ≡ length l.differ)
+invariant-loop-ran l = (l.differ ≤ l.ran) × (l.ran ≤ 1000000) × (48 ≡ length l.head)
 
 abbrev pub decreases-loop-ran : goal.decreases-loop-ran
-decreases-loop-ran l = 1000000 - ?ran
+decreases-loop-ran l = 1000000 - l.ran

@@ -2,6 +2,7 @@
 use native.Mathlib.Omega.{arith}
 use mathlib.Core.Path.{◌∙◌, ap}
 use lib.ListN.{get_or}
+use borrow.Author.Rules.{rules}
 use Rattle.ir.specs.Classes.{has_rows}
 use Rattle.value.specs.declared.OptionValue.{OptionValue}
 use Rattle.inputs.proofs.Ports.{wired, few, wired_port_lem}
@@ -12,7 +13,6 @@ use Rattle.model.specs.Own.{set_nothing}
 use Rattle.resolve.specs.Gives.{microchip_offer}
 use Rattle.resolve.proofs.Trials.{inputs, gate_rows, listed, node_is, gives, never_folded, never, literal, microchip, select, branch, any_gate}
 use Rattle.resolve.proofs.GateValues.{by_inputs}
-use borrow.Author.Rules.{rules}
 use Rattle.resolve.proofs.try_resolve.Goals as goal
 
 pub node-node-requires : goal.node-node-requires
@@ -50,7 +50,7 @@ pub try_resolve_gate-requires : goal.try_resolve_gate-requires
 try_resolve_gate-requires c =
     let p = c.requires in
     let f = c.folding_of-folding.result in
-    (p.0, p.1, listed c.folding_of-folding.ensures (gate_rows f c.in_default.keys6))
+    (p.0, p.1, listed c.folding_of-folding.ensures (gate_rows f (search rules)))
 
 pub returns-in-Never : goal.returns-in-Never
 returns-in-Never c =
@@ -82,5 +82,5 @@ returns-in-Branch c =
 pub returns-in_default : goal.returns-in_default
 returns-in_default c =
     let f = c.folding_of-folding.result in
-    gives _ _ _ _ (by_inputs _ _ _ _ _ f c.in_default.keys6 c.input_count-count.ensures c.try_resolve_gate.ensures)
-    (any_gate _ _ _ _ (c.node-node.ensures ∙ node_is _ _ c.requires.1) c.is_nofold.ensures c.if-is_nofold.false c.folding_of-folding.ensures c.in_default.keys6)
+    gives _ _ _ _ (by_inputs _ _ _ _ _ f (search rules) c.input_count-count.ensures c.try_resolve_gate.ensures)
+    (any_gate _ _ _ _ (c.node-node.ensures ∙ node_is _ _ c.requires.1) c.is_nofold.ensures c.if-is_nofold.false c.folding_of-folding.ensures (search rules))

@@ -7,10 +7,10 @@ use Rattle.resolve.proofs.Trials.{passes, is_set, never_set, nothing_known}
 use Rattle.resolve.proofs.try_resolve_microchip.Goals as goal
 
 pub returns-in_default : goal.returns-in_default
-returns-in_default c = λ g. let a = c.args in passes g a.n a.class (get_or a.own.now a.n set_nothing) a.input c.in_default.keys2 (c.passed.ensures g _)
+returns-in_default c = λ g. let a = c.args in passes g a.n a.class (get_or a.own.now a.n set_nothing) a.input (search rules) (c.passed.ensures g _)
 
 pub returns-then-class-eq-MICROCHIP_INPUT : goal.returns-then-class-eq-MICROCHIP_INPUT
-returns-then-class-eq-MICROCHIP_INPUT c = λ g. is_set g _ _ _ c.in-Unwired.is c.if-class-eq-MICROCHIP_INPUT.true (c.set_to.ensures g _)
+returns-then-class-eq-MICROCHIP_INPUT c = λ g. let a = c.args in is_set g a.n a.class (get_or a.own.now a.n set_nothing) c.in-Unwired.is c.if-class-eq-MICROCHIP_INPUT.true (c.set_to.ensures g _)
 
 pub returns : goal.returns
-returns c = λ g. never_set g _ _ _ c.in-Unwired.is c.if-class-eq-MICROCHIP_INPUT.false (nothing_known g _ refl)
+returns c = λ g. let a = c.args in never_set g a.n a.class (get_or a.own.now a.n set_nothing) c.in-Unwired.is c.if-class-eq-MICROCHIP_INPUT.false (nothing_known g _ refl)

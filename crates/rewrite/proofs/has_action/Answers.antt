@@ -37,4 +37,4 @@ loop-node-preserved c =
 pub returns : goal.returns
 returns c =
     let i = c.loop-node.invariant in
-    (λ e b l. i.1 e b (omega arith), λ e. let h = i.2 e in record { node = h.node; within = omega (arith, h.within); has = h.has })
+    record { nowhere = λ e b l. i.1 e b (omega arith); somewhere = λ e. let h = i.2 e in record { node = h.node; within = omega (arith, h.within); has = h.has } }

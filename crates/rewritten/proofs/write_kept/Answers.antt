@@ -8,15 +8,13 @@ use Rattle.rewritten.proofs.write_kept.Goals as goal
 pub wires-wires-requires : goal.wires-wires-requires
 wires-wires-requires c = c.requires.given.settled.accepts
 
--- unturned: c.before.wires.ensures
 pub write_wires-length-requires : goal.write_wires-length-requires
 write_wires-length-requires c =
     let K = c.requires in
-    let w = c.before.wires.ensures in
     record {
-      records = section_records _ _ K.given.settled.accepts w.0 w.1 (λ i. omega (arith, c.shared_slice_known-1.given i));
-      bounded = bounded_at _ _ K.given.settled.accepts w.1;
-      room = omega (arith, K.given.long, (bounded_at _ _ K.given.settled.accepts w.1).few_wires);
+      records = section_records _ _ K.given.settled.accepts c.wires-wires.ensures.part c.wires-wires.ensures.wires (λ i. omega (arith, c.type_inv.input i));
+      bounded = bounded_at _ _ K.given.settled.accepts c.wires-wires.ensures.wires;
+      room = omega (arith, K.given.long, (bounded_at _ _ K.given.settled.accepts c.wires-wires.ensures.wires).few_wires);
     }
 
 pub returns : goal.returns

@@ -1,5 +1,4 @@
 -- `semantics::eval_in` meets its contract.
--- the classes before the gates, and those past the last
 use Prim.Native.Nat.{ℕ, zero, suc, ◌≤◌, ◌<◌}
 use mathlib.Core.Path.{◌≡◌, refl, sym, ap, ◌∙◌}
 use native.Mathlib.Omega.{arith}
@@ -9,9 +8,9 @@ use Rattle.value.specs.declared.Operand.{Operand}
 use Rattle.value.specs.declared.OptionValue.{OptionValue}
 use Rattle.semantics.specs.Eval.{Rule, rules, no_gate, eval_of}
 use Rattle.semantics.proofs.Starred.{starred_hold}
-use borrow.Author.Rules.{rules}
 use Rattle.semantics.proofs.eval_in.Goals as goal
 
+-- the classes before the gates, and those past the last
 before : (n : ℕ) → n < 6 → (x y z : Operand) → OptionValue.None ≡ eval_of n x y z
 before zero h x y z = refl
 before (suc zero) h x y z = refl
@@ -25,33 +24,33 @@ past : (n : ℕ) → class_count ≤ n → (x y z : Operand) → OptionValue.Non
 past n h x y z = sym (ap (λ (r : Rule). r x y z) (get_or-eq_default rules no_gate {n = n} h))
 
 pub returns-then-class-lt-COMPARE_EQUAL : goal.returns-then-class-lt-COMPARE_EQUAL
-returns-then-class-lt-COMPARE_EQUAL c = (before c.args.class (omega arith) c.args.a c.args.b c.args.c, starred_hold)
+returns-then-class-lt-COMPARE_EQUAL c = record { rule = before c.args.class (omega arith) c.args.a c.args.b c.args.c; starred = starred_hold }
 
 pub returns-then-class-lt-LOGICAL_AND : goal.returns-then-class-lt-LOGICAL_AND
-returns-then-class-lt-LOGICAL_AND c = (search rules, starred_hold)
+returns-then-class-lt-LOGICAL_AND c = record { rule = c.compare.ensures; starred = starred_hold }
 
 pub returns-then-class-le-LOGICAL_NOR : goal.returns-then-class-le-LOGICAL_NOR
-returns-then-class-le-LOGICAL_NOR c = (search rules, starred_hold)
+returns-then-class-le-LOGICAL_NOR c = record { rule = c.logical.ensures; starred = starred_hold }
 
 pub returns-then-class-le-MATH_MODULO : goal.returns-then-class-le-MATH_MODULO
-returns-then-class-le-MATH_MODULO c = (search rules, starred_hold)
+returns-then-class-le-MATH_MODULO c = record { rule = c.math.ensures; starred = starred_hold }
 
 pub returns-then-class-le-MATH_MOD_FLOORED : goal.returns-then-class-le-MATH_MOD_FLOORED
-returns-then-class-le-MATH_MOD_FLOORED c = (search rules, starred_hold)
+returns-then-class-le-MATH_MOD_FLOORED c = record { rule = c.extended_math.ensures; starred = starred_hold }
 
 pub returns-then-class-lt-BITWISE_AND : goal.returns-then-class-lt-BITWISE_AND
-returns-then-class-lt-BITWISE_AND c = (search rules, starred_hold)
+returns-then-class-lt-BITWISE_AND c = record { rule = c.rounding.ensures; starred = starred_hold }
 
 pub returns-then-class-le-BITWISE_NOR : goal.returns-then-class-le-BITWISE_NOR
-returns-then-class-le-BITWISE_NOR c = (search rules, starred_hold)
+returns-then-class-le-BITWISE_NOR c = record { rule = c.bitwise_logic.ensures; starred = starred_hold }
 
 pub returns-then-class-le-BITWISE_BIT_COUNT : goal.returns-then-class-le-BITWISE_BIT_COUNT
-returns-then-class-le-BITWISE_BIT_COUNT c = (search rules, starred_hold)
+returns-then-class-le-BITWISE_BIT_COUNT c = record { rule = c.shifts.ensures; starred = starred_hold }
 
 pub returns-then-class-eq-MATH_SQRT : goal.returns-then-class-eq-MATH_SQRT
 returns-then-class-eq-MATH_SQRT c =
-    (c.sqrt.ensures ∙ ap (λ n. eval_of n c.args.a c.args.b c.args.c) (sym c.if-class-eq-MATH_SQRT.taken), starred_hold)
+    record { rule = c.sqrt.ensures ∙ ap (λ n. eval_of n c.args.a c.args.b c.args.c) (sym c.if-class-eq-MATH_SQRT.true); starred = starred_hold }
 
 pub returns : goal.returns
 returns c =
-    (past c.args.class (omega arith) c.args.a c.args.b c.args.c, starred_hold)
+    record { rule = past c.args.class (omega arith) c.args.a c.args.b c.args.c; starred = starred_hold }

@@ -1,40 +1,10 @@
--- src/lib.rt:173:43
--- src/lib.rt:173:23
--- src/lib.rt:174:46
--- src/lib.rt:174:26
--- src/lib.rt:175:19
--- src/lib.rt:175:25
--- src/lib.rt:176:21
--- src/lib.rt:176:27
--- src/lib.rt:177:20
--- src/lib.rt:177:51
--- src/lib.rt:177:26
--- src/lib.rt:178:24
--- src/lib.rt:178:37
--- src/lib.rt:168:1
--- src/lib.rt:168:1
--- src/lib.rt:168:1
--- src/lib.rt:168:1
--- src/lib.rt:168:1
--- src/lib.rt:168:1
--- src/lib.rt:168:1
--- src/lib.rt:168:1
--- src/lib.rt:168:1
--- src/lib.rt:168:1
--- src/lib.rt:168:1
--- src/lib.rt:168:1
+-- `sheet_line::write_fate` meets its contract.
 use Rattle.sheet_line.proofs.Pieces.{letter_alone, letter_number, as_fate}
 use Rattle.sheet_line.specs.declared.Fate.{Fate}
 use Prim.Native.Nat.{ℕ}
 use mathlib.Core.List.{List, [], ◌∷◌}
 use mathlib.Core.Path.{refl, sym, ap}
 use borrow.Author.Rules.{rules}
-use Rattle.sheet_line.proofs.write_fate.Reads as reads
-use Rattle.sheet_line.proofs.write_fate.Lts as lts
-use Rattle.encoding.proofs.numbers.write_byte.Reads as write-byte-reads
-use Rattle.sheet_line.proofs.bool_number.Reads as bool-number-reads
-use Rattle.sheet_line.proofs.write_one.Reads as write-one-reads
-use Rattle.sheet_line.proofs.write_vector.Reads as write-vector-reads
 use Rattle.sheet_line.proofs.write_fate.Goals as goal
 
 pub returns-in-Kept : goal.returns-in-Kept

@@ -1,15 +1,6 @@
--- src/lib.rt:130:9
--- src/lib.rt:131:9
--- src/lib.rt:132:9
--- src/lib.rt:133:5
--- src/lib.rt:126:1
--- src/lib.rt:126:1
+-- `sheet_line::write_hex` meets its contract.
 use Rattle.sheet_line.proofs.Pieces.{half_room, hex_all}
 use borrow.Author.Rules.{rules}
-use Rattle.sheet_line.proofs.write_hex.Reads as reads
-use Rattle.sheet_line.proofs.write_hex.Lts as lts
-use Rattle.encoding.proofs.numbers.write_u64.Reads as write-u64-reads
-use Rattle.sheet_line.proofs.hex_word.Reads as hex-word-reads
 use Rattle.sheet_line.proofs.write_hex.Goals as goal
 
 pub write_u64-requires : goal.write_u64-requires

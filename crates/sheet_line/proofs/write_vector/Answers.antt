@@ -1,16 +1,8 @@
--- src/lib.rt:157:9
--- src/lib.rt:158:9
--- src/lib.rt:159:5
--- src/lib.rt:153:1
--- src/lib.rt:153:1
+-- `sheet_line::write_vector` meets its contract.
 use native.Mathlib.Omega.{arith}
 use Rattle.sheet_line.proofs.Widths.{number_length}
 use Rattle.sheet_line.proofs.Pieces.{after, vector_all}
 use borrow.Author.Rules.{rules}
-use Rattle.sheet_line.proofs.write_vector.Reads as reads
-use Rattle.sheet_line.proofs.write_vector.Lts as lts
-use Rattle.sheet_line.proofs.write_number.Reads as write-number-reads
-use Rattle.sheet_line.proofs.write_one.Reads as write-one-reads
 use Rattle.sheet_line.proofs.write_vector.Goals as goal
 
 pub write_number-third-requires : goal.write_number-third-requires

@@ -47,4 +47,4 @@ loop-node-preserved c =
 pub returns : goal.returns
 returns c =
     let i = c.loop-node.invariant in
-    (λ e m l. i.1 e m (omega arith), λ e. let a = i.2 e in record { node = a.node; within = omega (arith, a.within); above = a.above })
+    record { low = λ e m l. i.1 e m (omega arith); above = λ e. let a = i.2 e in record { node = a.node; within = omega (arith, a.within); above = a.above } }

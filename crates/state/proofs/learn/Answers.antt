@@ -2,15 +2,8 @@
 use Prim.Native.Nat.{ℕ}
 use mathlib.Core.Path.{refl, ap}
 use lib.ListN.{set}
-use borrow.Author.Rules.{rules}
 use Rattle.model.specs.Arrays.{store_words}
 use Rattle.state.proofs.learn.Goals as goal
-
-pub words_of-held-requires : goal.words_of-held-requires
-words_of-held-requires c = tt
-
-pub kind_of-requires : goal.kind_of-requires
-kind_of-requires c = tt
 
 pub returns : goal.returns
 unfolding store_words

@@ -1,28 +1,6 @@
 -- `state::store` meets its contract.
-use borrow.Author.Rules.{rules}
 use Rattle.state.proofs.Stores.{adds_nothing, adds_known, adds_literal, adds_short_circuit, adds_short_circuit_known, adds_truncate}
 use Rattle.state.proofs.store.Goals as goal
-
-pub enum_told-1 : goal.enum_told-1
-enum_told-1 c = c.in-Nothing.keys1
-
-pub enum_known-trial : goal.enum_known-trial
-enum_known-trial c = c.in-Known.keys2
-
-pub enum_known-trial-in-BecomeLiteral-1 : goal.enum_known-trial-in-BecomeLiteral-1
-enum_known-trial-in-BecomeLiteral-1 c = c.in-BecomeLiteral.keys3
-
-pub enum_known-trial-in-ShortCircuit-1 : goal.enum_known-trial-in-ShortCircuit-1
-enum_known-trial-in-ShortCircuit-1 c = c.in-ShortCircuit.keys4
-
-pub enum_known-trial-in-ShortCircuitKnown-1 : goal.enum_known-trial-in-ShortCircuitKnown-1
-enum_known-trial-in-ShortCircuitKnown-1 c = c.in-ShortCircuitKnown.keys5
-
-pub enum_known-trial-in-Truncate-1 : goal.enum_known-trial-in-Truncate-1
-enum_known-trial-in-Truncate-1 c = c.in-Truncate.keys6
-
-pub wide-requires : goal.wide-requires
-wide-requires c = tt
 
 pub returns-in-Nothing : goal.returns-in-Nothing
 returns-in-Nothing c = adds_nothing _ _ _ _ _ c.requires _ c.in-Nothing.is

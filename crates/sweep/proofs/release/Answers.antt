@@ -1,8 +1,6 @@
 -- `sweep::release` meets its contract.
 use native.Mathlib.Omega.{arith}
 use mathlib.Core.Path.{refl}
-use borrow.Author.Tests.{not-true, not-false}
-use borrow.Author.Rules.{rules}
 use Rattle.sweep.proofs.Queues.{released_other, released_not, released_more, place_left}
 use Rattle.sweep.proofs.release.Goals as goal
 
@@ -11,7 +9,7 @@ returns-then-degree-ne0 c = released_other _ c.requires.0 c.requires.1 c.require
 
 pub returns-then-not-eligible-n : goal.returns-then-not-eligible-n
 returns-then-not-eligible-n c =
-    released_not _ c.requires.0 c.requires.1 c.requires.2 _ refl refl (not-true _ c.if-not-eligible-n.true)
+    released_not _ c.requires.0 c.requires.1 c.requires.2 _ refl refl c.if-not-eligible-n.true
 
 pub offset_bounds-order-tail : goal.offset_bounds-order-tail
 offset_bounds-order-tail c =
@@ -27,4 +25,4 @@ overflow_add-result c =
 
 pub returns : goal.returns
 returns c =
-    released_more _ c.requires.0 c.requires.1 c.requires.2 _ refl refl refl refl (not-false _ c.if-not-eligible-n.false) c.if-degree-ne0.false
+    released_more _ c.requires.0 c.requires.1 c.requires.2 _ refl refl refl refl c.if-not-eligible-n.false c.if-degree-ne0.false

@@ -3,7 +3,6 @@ use Prim.Native.Nat.{ℕ, ◌<◌}
 use mathlib.Core.Path.{sym, ap, subst, ◌∙◌}
 use Rattle.table.specs.Table.{number_count, has_number}
 use Rattle.table.proofs.Search.{within}
-use borrow.Author.Rules.{rules}
 use Rattle.table.proofs.covers.Goals as goal
 
 pub has_number-requires : goal.has_number-requires
@@ -12,4 +11,4 @@ has_number-requires c = subst (λ (n : ℕ). n < number_count) (sym c.row_number
 pub returns : goal.returns
 returns c =
     let e = c.has_number.ensures ∙ ap (λ (n : ℕ). has_number c.args.cells.now n) c.row_number-n.ensures.number in
-    (e, λ rows m. e ∙ m.marked _ c.requires)
+    record { marked = e; rows = λ rows m. e ∙ m.marked _ c.requires }

@@ -1,15 +1,11 @@
 -- `table::has_cell` meets its contract.
 use Rattle.table.proofs.Search.{answers}
-use borrow.Author.Rules.{rules}
 use Rattle.table.proofs.has_cell.Goals as goal
 
 pub returns : goal.returns
 returns c =
     let k = c.args in
-    answers (record { class = k.class; first = k.first; second = k.second; third = k.third })
-    (rw (
-      c.wide.ensures,
-      c.wide-2.ensures,
-      c.wide-3.ensures,
-      c.wide-4.ensures,
-    ))
+    let e =
+        answers (record { class = k.class; first = k.first; second = k.second; third = k.third })
+        (rw (c.wide.ensures, c.wide-2.ensures, c.wide-3.ensures, c.wide-4.ensures)) in
+    record { cell = e.0; listed = e.1.0; fits = e.1.1 }

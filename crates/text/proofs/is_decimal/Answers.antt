@@ -6,14 +6,19 @@ use mathlib.Core.Path.{sym, ◌∙◌, ap}
 use mir.Facts.{to_z-of_z}
 use Rattle.text.proofs.Digits.{below_zero, zero_text_lem, above_zero}
 use Rattle.text.proofs.Decimals.{told}
-use borrow.Author.Rules.{rules}
 use Rattle.text.proofs.is_decimal.Goals as goal
 
 pub returns-then-less : goal.returns-then-less
-returns-then-less c = told _ _ _ (c.is_negated.ensures ∙ below_zero _ _ _ (omega arith) (omega arith) _ (ap (λ (z : ℤ). lt_z z (pos 0)) (sym (to_z-of_z c.ranges.n)) ∙ sym c.less.ensures ∙ c.if-less.true) (c.unsigned_abs-size.ensures ∙ ap nat_abs (to_z-of_z c.ranges.n)))
+returns-then-less c =
+    let r = told c.args.low c.args.high c.args.n (c.is_negated.ensures ∙ below_zero _ _ _ (omega arith) (omega arith) _ (ap (λ (z : ℤ). lt_z z (pos 0)) (sym (to_z-of_z c.ranges.n)) ∙ sym c.less.ensures ∙ c.if-less.true) (c.unsigned_abs-size.ensures ∙ ap nat_abs (to_z-of_z c.ranges.n))) in
+    record { equal = r.0; plain = r.1.0; long = r.1.1 }
 
 pub returns-then-size-eq0 : goal.returns-then-size-eq0
-returns-then-size-eq0 c = told _ _ _ (zero_text_lem _ _ _ (omega arith) (omega arith) _ (ap (λ (z : ℤ). lt_z z (pos 0)) (sym (to_z-of_z c.ranges.n)) ∙ sym c.less.ensures ∙ c.if-less.false) (c.unsigned_abs-size.ensures ∙ ap nat_abs (to_z-of_z c.ranges.n)) c.if-size-eq0.true)
+returns-then-size-eq0 c =
+    let r = told c.args.low c.args.high c.args.n (zero_text_lem _ _ _ (omega arith) (omega arith) _ (ap (λ (z : ℤ). lt_z z (pos 0)) (sym (to_z-of_z c.ranges.n)) ∙ sym c.less.ensures ∙ c.if-less.false) (c.unsigned_abs-size.ensures ∙ ap nat_abs (to_z-of_z c.ranges.n)) c.if-size-eq0.true) in
+    record { equal = r.0; plain = r.1.0; long = r.1.1 }
 
 pub returns : goal.returns
-returns c = told _ _ _ (c.is_digits.ensures ∙ above_zero _ _ _ (omega arith) (omega arith) _ (ap (λ (z : ℤ). lt_z z (pos 0)) (sym (to_z-of_z c.ranges.n)) ∙ sym c.less.ensures ∙ c.if-less.false) (c.unsigned_abs-size.ensures ∙ ap nat_abs (to_z-of_z c.ranges.n)) c.if-size-eq0.false)
+returns c =
+    let r = told c.args.low c.args.high c.args.n (c.is_digits.ensures ∙ above_zero _ _ _ (omega arith) (omega arith) _ (ap (λ (z : ℤ). lt_z z (pos 0)) (sym (to_z-of_z c.ranges.n)) ∙ sym c.less.ensures ∙ c.if-less.false) (c.unsigned_abs-size.ensures ∙ ap nat_abs (to_z-of_z c.ranges.n)) c.if-size-eq0.false) in
+    record { equal = r.0; plain = r.1.0; long = r.1.1 }

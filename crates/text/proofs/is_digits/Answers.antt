@@ -1,6 +1,6 @@
 -- `text::is_digits` meets its contract.
 use native.Mathlib.Omega.{arith}
-use Rattle.text.proofs.Digits.{Partial, begin, next, all, too_long}
+use Rattle.text.proofs.Digits.{begin, next, all, too_long}
 use Rattle.text.proofs.is_digits.Goals as goal
 
 pub loop-rest-init : goal.loop-rest-init

@@ -1,6 +1,5 @@
 -- `text::is_digits` meets its contract.
-use native.Mathlib.Omega.{arith}
-use Rattle.text.proofs.Digits.{Partial, begin, next, all, too_long}
+use Rattle.text.proofs.Digits.{Partial}
 use Rattle.text.proofs.is_digits.Given as goal
 
 abbrev pub invariant-loop-rest : goal.invariant-loop-rest

@@ -1,12 +1,9 @@
 -- `text::is_listed` meets its contract.
-use borrow.Author.Tests.{not-true, not-false, lt-leb, le-leb}
+use borrow.Author.Tests.{lt-leb, le-leb}
 use native.Mathlib.Omega.{arith}
-use Prim.Native.Nat.{◌+◌, ◌-◌, ◌≤◌}
 use mathlib.Core.Path.{◌≡◌, refl, sym, ◌∙◌}
-use mathlib.Core.Bool.{true}
 use Rattle.text.specs.Listed.{are_chars, is_listed_text}
 use Rattle.text.proofs.Listed.{one_wrong, one_right}
-use borrow.Author.Rules.{rules}
 use Rattle.text.proofs.is_listed.Goals as goal
 
 pub returns-then-length-gt-MAX_LENGTH : goal.returns-then-length-gt-MAX_LENGTH
@@ -19,10 +16,10 @@ loop-i-init c = (omega arith, refl)
 
 pub returns-then-not-is_char : goal.returns-then-not-is_char
 unfolding is_listed_text
-returns-then-not-is_char c = rw (← c.wide-length.ensures.0, le-leb _ _ c.if-length-gt-MAX_LENGTH.false) (sym (one_wrong _ 16 _ _ _ c.loop-i-test.true (sym c.is_char.ensures ∙ not-true _ c.if-not-is_char.true)))
+returns-then-not-is_char c = rw (← c.wide-length.ensures.0, le-leb _ _ c.if-length-gt-MAX_LENGTH.false) (sym (one_wrong _ 16 _ _ _ c.loop-i-test.true (sym c.is_char.ensures ∙ c.if-not-is_char.true)))
 
 pub loop-i-preserved : goal.loop-i-preserved
-loop-i-preserved c = (omega arith, one_right _ _ _ _ c.loop-i.invariant.1 (sym c.is_char.ensures ∙ not-false _ c.if-not-is_char.false))
+loop-i-preserved c = (omega arith, one_right _ _ _ _ c.loop-i.invariant.1 (sym c.is_char.ensures ∙ c.if-not-is_char.false))
 
 pub returns : goal.returns
 unfolding is_listed_text

@@ -2,7 +2,6 @@
 use native.Mathlib.Omega.{arith}
 use mathlib.Core.Path.{◌∙◌}
 use Rattle.text.proofs.Digits.{no_minus, after_minus, rest_fits}
-use borrow.Author.Rules.{rules}
 use Rattle.text.proofs.is_negated.Goals as goal
 
 pub returns-then-low-ne-MINUS_SIGN : goal.returns-then-low-ne-MINUS_SIGN

@@ -3,7 +3,6 @@ use native.Mathlib.Omega.{arith}
 use mathlib.Core.Path.{◌∙◌, ap}
 use Prim.Native.Nat.{ℕ, ◌+◌}
 use Rattle.text.proofs.Lengths.{one_word, two_words}
-use borrow.Author.Rules.{rules}
 use Rattle.text.proofs.length_of.Goals as goal
 
 pub returns-then-high-eq0 : goal.returns-then-high-eq0

@@ -1,7 +1,6 @@
 -- `text::word_length` meets its contract.
 use native.Mathlib.Omega.{arith}
 use lib.Count.{leading_le}
-use borrow.Author.Rules.{rules}
 use Rattle.text.proofs.Lengths.{by_zeros}
 use Rattle.text.proofs.word_length.Goals as goal
 

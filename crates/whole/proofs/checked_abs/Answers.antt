@@ -1,5 +1,4 @@
 use mathlib.Core.Path.{ap, ◌∙◌}
-use borrow.Author.Rules.{rules}
 use Rattle.whole.specs.Checked.{checked}
 use Rattle.whole.proofs.Checked.{size_upper, size_lower}
 use Rattle.whole.proofs.checked_abs.Goals as goal

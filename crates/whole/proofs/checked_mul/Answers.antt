@@ -1,4 +1,3 @@
-use borrow.Author.Rules.{rules}
 use lib.IntN.{◌*ℤ◌}
 use Rattle.whole.proofs.Checked.{in_word, inside, outside}
 use Rattle.whole.proofs.checked_mul.Goals as goal

@@ -1,5 +1,4 @@
 use mathlib.Core.Path.{ap, ◌∙◌}
-use borrow.Author.Rules.{rules}
 use lib.IntN.{neg_ℤ, +ℤ_idl}
 use mir.Facts.{to_z-of_z}
 use Rattle.whole.specs.Checked.{checked}

@@ -1,5 +1,4 @@
 use mathlib.Core.Path.{ap}
-use borrow.Author.Rules.{rules}
 use lib.Arith.{sub-sub_self}
 use lib.Pow.{le_ones}
 use mir.Syntax.{w64}

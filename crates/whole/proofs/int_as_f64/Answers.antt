@@ -1,6 +1,5 @@
 -- `whole::int_as_f64` meets its contract.
 use native.Mathlib.Omega.{arith}
-use borrow.Author.Rules.{rules}
 use Rattle.whole.proofs.Bits.{read_shift}
 use Rattle.whole.proofs.Convert.{counted_most, shift_of, inside_cast, power_cast, given, not_given}
 use Rattle.whole.proofs.int_as_f64.Goals as goal
@@ -26,9 +25,11 @@ int_to_float-power c = power_cast _ (counted_most _ c.exponent-k.ensures)
 pub returns-then-m : goal.returns-then-m
 returns-then-m c =
     let f = c.ranges.n in
-    given _ _ _ (shift_of _ _ _ _ f c.unsigned_abs.ensures c.exponent-k.ensures (read_shift _ f)) c.if-m.true
+    let r = given c.args.n _ _ (shift_of _ _ _ _ f c.unsigned_abs.ensures c.exponent-k.ensures (read_shift _ f)) c.if-m.true in
+    record { value = r.0; exact = r.1.0; whenever = r.1.1.0; short = r.1.1.1.0; counters = r.1.1.1.1.0; examples = r.1.1.1.1.1 }
 
 pub returns-else-m : goal.returns-else-m
 returns-else-m c =
     let f = c.ranges.n in
-    not_given _ _ _ f (shift_of _ _ _ _ f c.unsigned_abs.ensures c.exponent-k.ensures (read_shift _ f)) c.if-m.false
+    let r = not_given c.args.n _ _ f (shift_of _ _ _ _ f c.unsigned_abs.ensures c.exponent-k.ensures (read_shift _ f)) c.if-m.false in
+    record { value = r.0; exact = r.1.0; whenever = r.1.1.0; short = r.1.1.1.0; counters = r.1.1.1.1.0; examples = r.1.1.1.1.1 }

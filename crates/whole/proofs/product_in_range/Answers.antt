@@ -1,5 +1,4 @@
 use mathlib.Core.Path.{◌∙◌}
-use borrow.Author.Rules.{rules}
 use Rattle.whole.proofs.Checked.{product}
 use Rattle.whole.proofs.product_in_range.Goals as goal
 

@@ -1,10 +1,13 @@
 use mathlib.Core.Path.{sym, ◌∙◌}
-use borrow.Author.Rules.{rules}
 use Rattle.whole.proofs.Checked.{by_zero, overflow, division, remainder}
 use Rattle.whole.proofs.rem.Goals as goal
 
 pub returns-then-is_zero : goal.returns-then-is_zero
 returns-then-is_zero c = by_zero c.ranges.a c.ranges.b _ (sym c.is_zero.ensures ∙ c.if-is_zero.true)
+
+pub nonzero_rem-result : goal.nonzero_rem-result
+nonzero_rem-result c =
+    division c.ranges.a c.ranges.b (sym c.is_zero.ensures ∙ c.if-is_zero.false) (sym c.division_overflows.ensures ∙ c.if-division_overflows.false)
 
 pub returns-then-division_overflows : goal.returns-then-division_overflows
 returns-then-division_overflows c =

@@ -1,4 +1,3 @@
-use borrow.Author.Rules.{rules}
 use Prim.Native.Nat.{◌*◌, ◌%◌, ◌^◌}
 use mir.Syntax.{w64}
 use mir.Val.{to_z, of_z}

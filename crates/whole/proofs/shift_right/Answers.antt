@@ -1,5 +1,4 @@
 use mathlib.Core.Path.{ap, ◌∙◌}
-use borrow.Author.Rules.{rules}
 use lib.Signed.{shr_z}
 use Rattle.whole.specs.declared.OptionInt.{OptionInt}
 use Rattle.whole.proofs.Bits.{count, inside, outside, read_shift}

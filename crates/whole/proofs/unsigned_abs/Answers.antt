@@ -1,4 +1,3 @@
-use borrow.Author.Rules.{rules}
 use Rattle.whole.proofs.Bits.{upper, lower}
 use Rattle.whole.proofs.unsigned_abs.Goals as goal
 

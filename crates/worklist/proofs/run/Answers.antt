@@ -3,7 +3,6 @@ use mathlib.Core.Path.{refl}
 use Prim.Native.Nat.{◌+◌, ◌-◌}
 use native.Mathlib.Omega.{arith}
 use lib.ListN.{length}
-use borrow.Author.Rules.{rules}
 use Rattle.graph.specs.Decode.{graph_of}
 use Rattle.model.specs.Inputs.{size}
 use Rattle.model.specs.Own.{own_of}
@@ -22,22 +21,17 @@ front-n-requires c = c.loop-queue.invariant.queued.head_in
 pub rest-queue-requires : goal.rest-queue-requires
 rest-queue-requires c = (c.loop-queue.invariant.queued.head_in, c.loop-queue-test.true)
 
--- unturned: f.before.before.before is the place At-loop-queue
 pub bounds-marks-n : goal.bounds-marks-n
 bounds-marks-n c =
-    let l = (goal.at.bounds-marks-n c).At-loop-queue in
-    let b = l.before.before.before.before.before.before.requires.0.bounded in
-    omega (arith, at_node l.before.loop.invariant b l.loop-test.true c.front-n.ensures, b.few_nodes)
+    let b = c.requires.0.bounded in
+    omega (arith, at_node c.loop-queue.invariant b c.loop-queue-test.true c.front-n.ensures, b.few_nodes)
 
--- unturned: r.before is the place After-front-n
 pub turn-waiting-requires : goal.turn-waiting-requires
 turn-waiting-requires c =
-    let f = (goal.at.turn-waiting-requires c).After-front-n in
-    let l = f.before.before.before in
-    let p = l.before.before.before.before.before.before.requires in
-    let i = l.before.loop.invariant in
-    let w = l.loop-test.true in
-    let e = f.front.ensures in
+    let p = c.requires in
+    let i = c.loop-queue.invariant in
+    let w = c.loop-queue-test.true in
+    let e = c.front-n.ensures in
     (p.0, p.1, at_node i p.0.bounded w e, at_unknown i p.0.bounded w e, at_rest i p.0.bounded w e c.rest-queue.ensures)
 
 pub overflow_add-pops : goal.overflow_add-pops
@@ -49,14 +43,9 @@ pub loop-queue-smaller : goal.loop-queue-smaller
 loop-queue-smaller c =
     omega (arith, at_less c.loop-queue.invariant c.requires.0.bounded c.loop-queue-test.true)
 
--- unturned: t.before.before.before.before.before.before.before is the place After-rest-queue
 pub loop-queue-preserved : goal.loop-queue-preserved
 loop-queue-preserved c =
-    let r = (goal.at.loop-queue-preserved c).After-rest-queue in
-    let f = r.before in
-    let l = f.before.before.before in
-    let b = l.before.before.before.before.before.before.requires.0.bounded in
-    at_next l.before.loop.invariant b l.loop-test.true f.front.ensures r.rest.ensures c.turn-waiting.ensures c.longer-queue.ensures
+    at_next c.loop-queue.invariant c.requires.0.bounded c.loop-queue-test.true c.front-n.ensures c.rest-queue.ensures c.turn-waiting.ensures c.longer-queue.ensures
 
 pub returns : goal.returns
 returns c = at_end c.loop-queue.invariant c.requires.0.bounded (omega (arith, c.loop-queue-test.false))

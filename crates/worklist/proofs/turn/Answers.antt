@@ -15,16 +15,12 @@ join-requires c =
     let p = c.requires in
     (chained _ _ p.0.wires_part p.0.bounded p.1 p.2, omega (arith, p.2, p.0.bounded.few_nodes), p.4)
 
--- unturned: b.before.before.before.before.before is the place After-shared_slice_known-2-1
 pub returns-then-store : goal.returns-then-store
 returns-then-store c =
-    let a = (goal.at.returns-then-store c).After-shared_slice_known-2-1 in
-    let p = a.before.before.before.before.before.requires in
-    turn_joined (tried _ _ _ a.try-resolve.result _ _ _ _ _ _ _ _ _ p.3 p.2 a.try-resolve.ensures c.store.ensures) p.0.wires_part p.0.bounded c.if-store.true c.join.ensures
+    let p = c.requires in
+    turn_joined (tried _ _ _ c.try_resolve-trial.result _ _ _ _ _ _ _ _ _ p.3 p.2 c.try_resolve-trial.ensures c.store.ensures) p.0.wires_part p.0.bounded c.if-store.true c.join.ensures
 
--- unturned: b.before.before.before.before.before is the place After-try_resolve-trial
 pub returns : goal.returns
 returns c =
-    let a = (goal.at.returns c).After-try_resolve-trial in
-    let p = a.before.before.before.before.before.requires in
-    turn_tried (tried _ _ _ a.try-resolve.result _ _ _ _ _ _ _ _ _ p.3 p.2 a.try-resolve.ensures c.store.ensures) p.4 c.if-store.false
+    let p = c.requires in
+    turn_tried (tried _ _ _ c.try_resolve-trial.result _ _ _ _ _ _ _ _ _ p.3 p.2 c.try_resolve-trial.ensures c.store.ensures) p.4 c.if-store.false

@@ -1,6 +1,4 @@
 -- `emit::kept::write_wires` meets its contract.
-use borrow.Author.Rules.{rules}
-use borrow.Author.Tests.{not-true}
 use Rattle.emit.proofs.Copying.{copy_room, copied}
 use Rattle.emit.proofs.kept.write_wires.Goals as goal
 
@@ -11,7 +9,7 @@ pub copy_wires-requires : goal.copy_wires-requires
 copy_wires-requires c = copy_room c.requires
 
 pub returns-then-not-any_above : goal.returns-then-not-any_above
-returns-then-not-any_above c = copied c.requires c.args.actions.now (c.any_above.ensures.low (not-true _ c.if-not-any_above.true)) c.copy_wires.ensures
+returns-then-not-any_above c = copied c.requires c.args.actions.now (c.any_above.ensures.low c.if-not-any_above.true) c.copy_wires.ensures
 
 pub write_each-requires : goal.write_each-requires
 write_each-requires c = c.requires

@@ -26,11 +26,10 @@ bounds-actions-target c = rw c.wire-target.ensures (c.requires.0.within.target _
 pub returns-then-actions-target-ne-TRUNCATE : goal.returns-then-actions-target-ne-TRUNCATE
 returns-then-actions-target-ne-TRUNCATE c = λ h. absurd (h refl)
 
--- unturned: c.before.before is the place After-wire-target
 pub returns : goal.returns
 returns c = λ h.
     record {
-      low = element-copy-out-if4 (goal.at.returns c).After-wire-target;
+      low = rw c.wire-target.ensures (c.requires.0.within.target _ (omega (arith, c.wide-wire.ensures.0, c.if-code-eq0.false, c.requires.0.inside _ c.if-actions-b-ne-TRUNCATE.false)));
       branch = c.if-actions-b-ne-TRUNCATE.false;
       some_code = omega (arith, c.if-code-eq0.false);
       alone = rw c.wide-wire.ensures.0 at c.if-next-wire-ne0.false;

@@ -24,32 +24,34 @@ read_u64-requires c = omega (arith, c.requires.1, ap value_size c.if-kind-eq-INT
 
 pub returns-then-kind-eq-INT : goal.returns-then-kind-eq-INT
 unfolding value_at
-returns-then-kind-eq-INT c = (
-  ap {B = Value} Int (to_z-of_z {w = w64} {z = c.from_bits.result} (search rules) ∙ c.from_bits.ensures ∙ ap (to_z w64) c.read_u64.ensures)
-      ∙ simp (eq-eqb _ _ c.if-kind-eq-INT.true),
-  λ t. absurd (omega (arith, t, c.if-kind-eq-INT.true)),
+returns-then-kind-eq-INT c = record {
+  value = ap {B = Value} Int (to_z-of_z {w = w64} {z = c.from_bits.result} (search rules) ∙ c.from_bits.ensures ∙ ap (to_z w64) c.read_u64.ensures)
+      ∙ simp (eq-eqb _ _ c.if-kind-eq-INT.true);
+  text = λ t. absurd (omega (arith, t, c.if-kind-eq-INT.true));
+}
 
 pub read_float-requires : goal.read_float-requires
 read_float-requires c = omega (arith, c.requires.1, ap value_size c.if-kind-eq-FLOAT.true)
 
 pub returns-then-kind-eq-FLOAT : goal.returns-then-kind-eq-FLOAT
 unfolding value_at
-returns-then-kind-eq-FLOAT c = (simp (ne_eqb _ _ c.if-kind-eq-INT.false, eq-eqb _ _ c.if-kind-eq-FLOAT.true, c.read_float.ensures), λ t. absurd (omega (arith, t, c.if-kind-eq-FLOAT.true)))
+returns-then-kind-eq-FLOAT c = record { value = simp (ne_eqb _ _ c.if-kind-eq-INT.false, eq-eqb _ _ c.if-kind-eq-FLOAT.true, c.read_float.ensures); text = λ t. absurd (omega (arith, t, c.if-kind-eq-FLOAT.true)) }
 
 pub bounds-s-at : goal.bounds-s-at
 bounds-s-at c = omega (arith, c.requires.1, ap value_size c.if-kind-eq-BOOL.true)
 
 pub returns-then-kind-eq-BOOL : goal.returns-then-kind-eq-BOOL
 unfolding value_at
-returns-then-kind-eq-BOOL c = (simp (ne_eqb _ _ c.if-kind-eq-INT.false, ne_eqb _ _ c.if-kind-eq-FLOAT.false, eq-eqb _ _ c.if-kind-eq-BOOL.true), λ t. absurd (omega (arith, t, c.if-kind-eq-BOOL.true)))
+returns-then-kind-eq-BOOL c = record { value = simp (ne_eqb _ _ c.if-kind-eq-INT.false, ne_eqb _ _ c.if-kind-eq-FLOAT.false, eq-eqb _ _ c.if-kind-eq-BOOL.true); text = λ t. absurd (omega (arith, t, c.if-kind-eq-BOOL.true)) }
 
 pub read_text-requires : goal.read_text-requires
 read_text-requires c = omega (arith, c.requires.1, ap value_size c.if-kind-eq-TEXT.true)
 
 pub returns-then-kind-eq-TEXT : goal.returns-then-kind-eq-TEXT
-returns-then-kind-eq-TEXT c = (
-  c.read_text.ensures ∙ at_text _ _ _ c.if-kind-eq-TEXT.true,
-  λ t. text_read _ _ (λ i. omega (arith, c.shared_slice_known-1.given i)) (omega (arith, c.requires.1, ap value_size t)),
+returns-then-kind-eq-TEXT c = record {
+  value = c.read_text.ensures ∙ at_text _ _ _ c.if-kind-eq-TEXT.true;
+  text = λ t. text_read _ _ (λ i. omega (arith, c.type_inv.s i)) (omega (arith, c.requires.1, ap value_size t));
+}
 
 pub read_composite-requires : goal.read_composite-requires
 read_composite-requires c =
@@ -60,4 +62,4 @@ read_composite-requires c =
 
 pub returns : goal.returns
 unfolding value_at
-returns c = (c.read_composite.ensures ∙ simp (ne_eqb _ _ c.if-kind-eq-INT.false, ne_eqb _ _ c.if-kind-eq-FLOAT.false, ne_eqb _ _ c.if-kind-eq-BOOL.false), λ t. absurd (c.if-kind-eq-TEXT.false t))
+returns c = record { value = c.read_composite.ensures ∙ simp (ne_eqb _ _ c.if-kind-eq-INT.false, ne_eqb _ _ c.if-kind-eq-FLOAT.false, ne_eqb _ _ c.if-kind-eq-BOOL.false); text = λ t. absurd (c.if-kind-eq-TEXT.false t) }

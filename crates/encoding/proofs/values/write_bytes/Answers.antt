@@ -17,20 +17,26 @@ unfolding bytes_of
 write_float-requires c = omega (arith, c.requires.1, ap length (float_bytes_lem c.args.kind c.args.a c.args.b c.args.c c.args.d c.if-kind-eq-FLOAT.true))
 
 pub returns-then-kind-eq-FLOAT : goal.returns-then-kind-eq-FLOAT
-returns-then-kind-eq-FLOAT c = held_back (omega arith) (omega arith) (omega arith) (omega arith) c.args.kind c.requires.0 c.requires.1 (same_written (ap float_bytes c.from_bits-x.ensures.value ∙ float_bytes_lem c.args.kind c.args.a c.args.b c.args.c c.args.d c.if-kind-eq-FLOAT.true) c.write_float.ensures)
+returns-then-kind-eq-FLOAT c =
+    let h = held_back (omega arith) (omega arith) (omega arith) (omega arith) c.args.kind c.requires.0 c.requires.1 (same_written (ap float_bytes c.from_bits-x.ensures.value ∙ float_bytes_lem c.args.kind c.args.a c.args.b c.args.c c.args.d c.if-kind-eq-FLOAT.true) c.write_float.ensures) in
+    record { written = h.0; back = h.1 }
 
 pub write_u64-requires : goal.write_u64-requires
 unfolding bytes_of
 write_u64-requires c = omega (arith, c.requires.1, ap length (int_bytes c.args.kind c.args.a c.args.b c.args.c c.args.d c.if-kind-eq-INT.true (omega arith)))
 
 pub returns-then-kind-eq-INT : goal.returns-then-kind-eq-INT
-returns-then-kind-eq-INT c = held_back (omega arith) (omega arith) (omega arith) (omega arith) c.args.kind c.requires.0 c.requires.1 (same_written (int_bytes c.args.kind c.args.a c.args.b c.args.c c.args.d c.if-kind-eq-INT.true (omega arith)) c.write_u64.ensures)
+returns-then-kind-eq-INT c =
+    let h = held_back (omega arith) (omega arith) (omega arith) (omega arith) c.args.kind c.requires.0 c.requires.1 (same_written (int_bytes c.args.kind c.args.a c.args.b c.args.c c.args.d c.if-kind-eq-INT.true (omega arith)) c.write_u64.ensures) in
+    record { written = h.0; back = h.1 }
 
 pub write_byte-requires : goal.write_byte-requires
 write_byte-requires c = omega (arith, c.requires.1, ap length (bool_bytes c.args.kind c.args.a c.args.b c.args.c c.args.d c.if-kind-eq-BOOL.true))
 
 pub returns-then-kind-eq-BOOL : goal.returns-then-kind-eq-BOOL
-returns-then-kind-eq-BOOL c = held_back (omega arith) (omega arith) (omega arith) (omega arith) c.args.kind c.requires.0 c.requires.1 (same_written (ap (λ x. x ∷ []) c.bool_byte-byte.ensures ∙ bool_bytes c.args.kind c.args.a c.args.b c.args.c c.args.d c.if-kind-eq-BOOL.true) c.write_byte.ensures)
+returns-then-kind-eq-BOOL c =
+    let h = held_back (omega arith) (omega arith) (omega arith) (omega arith) c.args.kind c.requires.0 c.requires.1 (same_written (ap (λ x. x ∷ []) c.bool_byte-byte.ensures ∙ bool_bytes c.args.kind c.args.a c.args.b c.args.c c.args.d c.if-kind-eq-BOOL.true) c.write_byte.ensures) in
+    record { written = h.0; back = h.1 }
 
 pub write_composite-requires : goal.write_composite-requires
 write_composite-requires c =
@@ -38,11 +44,15 @@ write_composite-requires c =
     (omega (arith, (property_kind c.args.kind c.requires.0).least, c.if-kind-eq-INT.false, c.if-kind-eq-FLOAT.false, c.if-kind-eq-BOOL.false), omega (arith, c.if-kind-le-COLOR.true), omega (arith, c.requires.1, ap (λ v. length (value_bytes v)) o))
 
 pub returns-then-kind-le-COLOR : goal.returns-then-kind-le-COLOR
-returns-then-kind-le-COLOR c = held_back (omega arith) (omega arith) (omega arith) (omega arith) c.args.kind c.requires.0 c.requires.1 (same_written (ap value_bytes (sym (held_other c.args.kind c.args.a c.args.b c.args.c c.args.d c.if-kind-eq-INT.false c.if-kind-eq-FLOAT.false c.if-kind-eq-BOOL.false))) c.write_composite.ensures)
+returns-then-kind-le-COLOR c =
+    let h = held_back (omega arith) (omega arith) (omega arith) (omega arith) c.args.kind c.requires.0 c.requires.1 (same_written (ap value_bytes (sym (held_other c.args.kind c.args.a c.args.b c.args.c c.args.d c.if-kind-eq-INT.false c.if-kind-eq-FLOAT.false c.if-kind-eq-BOOL.false))) c.write_composite.ensures) in
+    record { written = h.0; back = h.1 }
 
 pub write_text-requires : goal.write_text-requires
 unfolding bytes_of
 write_text-requires c = omega (arith, c.requires.1, ap length (text_bytes_lem c.args.kind c.args.a c.args.b c.args.c c.args.d (is_text_lem c.args.kind c.requires.0 c.if-kind-le-COLOR.false)))
 
 pub returns : goal.returns
-returns c = held_back (omega arith) (omega arith) (omega arith) (omega arith) c.args.kind c.requires.0 c.requires.1 (same_written (text_bytes_lem c.args.kind c.args.a c.args.b c.args.c c.args.d (is_text_lem c.args.kind c.requires.0 c.if-kind-le-COLOR.false)) c.write_text.ensures)
+returns c =
+    let h = held_back (omega arith) (omega arith) (omega arith) (omega arith) c.args.kind c.requires.0 c.requires.1 (same_written (text_bytes_lem c.args.kind c.args.a c.args.b c.args.c c.args.d (is_text_lem c.args.kind c.requires.0 c.if-kind-le-COLOR.false)) c.write_text.ensures) in
+    record { written = h.0; back = h.1 }

@@ -29,7 +29,6 @@ write_bytes-requires c =
     let first = written_length v (omega (arith, c.requires.1)) in
     (c.requires.0, omega (arith, c.requires.1, v.past, first, w.past, written_length w (omega (arith, c.requires.1, v.past, first))))
 
--- unturned: c.before.before.write_bytes.ensures
 pub returns : goal.returns
 unfolding bytes_of
 returns c =
@@ -37,9 +36,9 @@ returns c =
     let kind = kind_held a.w.a a.w.b a.w.c a.w.d a.kind c.requires.0 in
     let v = c.write_head-past_node.ensures in
     let w = c.write_byte-past_port.ensures in
-    let given = c.before.before.write_bytes.ensures in
+    let given = c.write_bytes.ensures in
     let first = written_length v (omega (arith, c.requires.1)) in
     let all =
     same_written (ap (λ k. head_bytes k a.node ++ (a.port ∷ value_bytes (held_by a.kind a.w))) (sym kind))
-    (written_more v (omega (arith, c.requires.1)) (written_more w (omega (arith, c.requires.1, v.past, first)) given.0)) in
-    (all, property_back c.requires.1 all {past = c.write_byte-past_port.result} (omega (arith, v.past, w.past)) _ kind given.1)
+    (written_more v (omega (arith, c.requires.1)) (written_more w (omega (arith, c.requires.1, v.past, first)) given.written)) in
+    record { written = all; back = property_back c.requires.1 all {past = c.write_byte-past_port.result} (omega (arith, v.past, w.past)) _ kind given.back }

@@ -27,4 +27,4 @@ bounds-out-at-7 c = simp length-set (omega arith)
 
 pub returns : goal.returns
 unfolding bytes_of
-returns c = (stored_7 _ _ _ _ _ _ _ _ _ (search rules), wire_back c.args.wire {l = c.args.out.now} c.requires (stored_7 _ _ _ _ _ _ _ _ _ c.requires))
+returns c = record { written = stored_7 _ _ _ _ _ _ _ _ _ c.requires; back = wire_back c.args.wire {l = c.args.out.now} c.requires (stored_7 _ _ _ _ _ _ _ _ _ c.requires) }

@@ -9,14 +9,13 @@ use Rattle.encoding.proofs.Held.{held_int, held_float, held_bool, held_vector, h
 use Rattle.encoding.proofs.words.words_of.Goals as goal
 
 pub returns-in-Int : goal.returns-in-Int
-returns-in-Int c = rw c.in-Int.is (held_int c.two_words.result (search rules) (ap (λ (w : Words). w.a) c.two_words.ensures ∙ c.to_bits.ensures ∙ ap (of_z w64) (to_z-of_z {z = c.in-Int.n} (search rules))))
+returns-in-Int c = rw c.in-Int.is (held_int c.two_words.result (search rules) (ap (λ (w : Words). w.a) c.two_words.ensures ∙ c.to_bits.ensures ∙ ap (of_z w64) (to_z-of_z {w = w64} {z = c.in-Int.n} (search rules))))
 
 pub returns-in-Float : goal.returns-in-Float
 returns-in-Float c = rw c.in-Float.is (held_float c.two_words-in-Float.result (search rules) (ap (λ (w : Words). w.a) c.two_words-in-Float.ensures ∙ c.to_bits-in-Float.ensures))
 
--- unturned: c.before.Bool-word.ensures
 pub returns-in-Bool : goal.returns-in-Bool
-returns-in-Bool c = rw c.in-Bool.is (held_bool c.two_words-in-Bool.result (rw c.two_words-in-Bool.ensures c.before.Bool-word.ensures))
+returns-in-Bool c = rw c.in-Bool.is (held_bool c.two_words-in-Bool.result (rw c.two_words-in-Bool.ensures c.bool_word.ensures))
 
 pub returns-in-Vector : goal.returns-in-Vector
 returns-in-Vector c = rw c.in-Vector.is (held_vector c.three_words.result c.three_words.ensures)

@@ -1,13 +1,11 @@
 -- `graph::question::is_next` meets its contract.
--- the tests that passed: questions 4, 12, 6 and 8
--- question 4 asks nothing of a text where there is none
 use Prim.Native.Nat.{ℕ, ◌+◌, ◌≤◌}
 use native.Mathlib.Omega.{arith}
 use mathlib.Core.Bool.{Bool, true, false≢true, ◌&&◌}
 use mathlib.Core.Path.{◌≡◌, refl, ◌∙◌, sym, ap}
 use mathlib.Core.List.{List}
 use lib.ListN.{length}
-use borrow.Author.Tests.{not-true, not-false, ne_eqb}
+use borrow.Author.Tests.{ne_eqb}
 use borrow.Author.Rules.{rules}
 use Rattle.ir.specs.Kinds.{text_kind}
 use Rattle.encoding.specs.Numbers.{byte}
@@ -16,12 +14,7 @@ use Rattle.graph.specs.Layout.{size_by}
 use Rattle.graph.proofs.Roles.{size_by_lem, and_left, and_right}
 use Rattle.graph.proofs.Asked.{next_of, next_whole, next_tests, next_first}
 use Rattle.graph.proofs.question.is_next.Goals as goal
-
-whole : (c : goal.Else-s-at) → c.args.at + c.args.size ≤ length c.args.s.now
-whole c = omega arith
-
-by_role : (c : goal.Else-s-at) → c.args.at + size_by c.args.role ≤ length c.args.s.now
-by_role c = omega (arith, whole c, ap size_by c.requires.0, size_by_lem c.args.kind)
+use Rattle.graph.proofs.question.is_next.Goals.{Else-not-listed-ordered}
 
 four : (a b d e : Bool) → (((a && b) && d) && e) ≡ true → (a ≡ true) × (b ≡ true) × (d ≡ true) × (e ≡ true)
 four a b d e h =
@@ -29,57 +22,55 @@ four a b d e h =
     let y = and_left (a && b) d x in
     (and_left a b y, and_right a b y, and_right (a && b) d x, and_right ((a && b) && d) e h)
 
-tests : (c : goal.Else-not-listed-ordered) → (c.is_listed-listed.result ≡ true) × (c.orders_no_text-ordered.result ≡ true) × (c.has_nodes-present.result ≡ true) × (c.has_room.result ≡ true)
-tests c = four _ _ _ _ (not-false _ c.if-not-listed-ordered.false)
+-- the tests that passed: questions 4, 12, 6 and 8
+tests : (c : Else-not-listed-ordered) → (c.is_listed-listed.result ≡ true) × (c.orders_no_text-ordered.result ≡ true) × (c.has_nodes-present.result ≡ true) × (c.has_room.result ≡ true)
+tests c = four _ _ _ _ c.if-not-listed-ordered.false
 
+-- question 4 asks nothing of a text where there is none
 no_text : (s : List ℕ) (at kind : ℕ) → byte s at ≡ kind → (kind ≡ text_kind → ⊥) → has_listed_text s at ≡ true
 no_text s at kind k n = rw (k, ne_eqb _ _ n) refl
 
 pub returns-then-s-at : goal.returns-then-s-at
 returns-then-s-at c =
-    (λ e. absurd (false≢true e), λ g h n. absurd (omega (arith, c.if-s-at.true, next_whole c.requires.0 c.requires.1 g h n)))
-
--- unturned: c.before is the place Else-s-at
-pub bounds-s-at : goal.bounds-s-at
-bounds-s-at c = omega (arith, whole (goal.at.bounds-s-at c).Else-s-at)
+    record { next = λ e. absurd (false≢true e); every = λ g h n. absurd (omega (arith, next_whole c.requires.0 c.requires.1 g h n)) }
 
 pub returns-then-s-at-2 : goal.returns-then-s-at-2
-returns-then-s-at-2 c = (λ e. absurd (false≢true e), λ g h n. absurd (c.if-s-at-2.true n.kind_byte))
+returns-then-s-at-2 c = record { next = λ e. absurd (false≢true e); every = λ g h n. absurd (c.if-s-at-2.true n.kind_byte) }
 
--- unturned: c.before.before is the place Else-s-at
 pub is_listed-listed-requires : goal.is_listed-listed-requires
-is_listed-listed-requires c = by_role (goal.at.is_listed-listed-requires c).Else-s-at
+is_listed-listed-requires c = omega (arith, ap size_by c.requires.0, size_by_lem c.args.kind)
 
--- unturned: c.before.before.before is the place Else-s-at
 pub orders_no_text-ordered-requires : goal.orders_no_text-ordered-requires
-orders_no_text-ordered-requires c = by_role (goal.at.orders_no_text-ordered-requires c).Else-s-at
+orders_no_text-ordered-requires c = omega (arith, ap size_by c.requires.0, size_by_lem c.args.kind)
 
--- unturned: c.before.before.before.before is the place Else-s-at
 pub has_nodes-present-requires : goal.has_nodes-present-requires
-has_nodes-present-requires c = by_role (goal.at.has_nodes-present-requires c).Else-s-at
+has_nodes-present-requires c = omega (arith, ap size_by c.requires.0, size_by_lem c.args.kind)
 
 pub returns-then-not-listed-ordered : goal.returns-then-not-listed-ordered
 returns-then-not-listed-ordered c =
-    (λ e. absurd (false≢true e), λ g h n. absurd (false≢true (sym (not-true _ c.if-not-listed-ordered.true) ∙ next_tests c.requires.0 c.requires.1 g h n c.is_listed-listed.ensures c.orders_no_text-ordered.ensures c.has_nodes-present.ensures c.has_room.ensures)))
+    record {
+      next = λ e. absurd (false≢true e);
+      every = λ g h n. absurd (false≢true (sym c.if-not-listed-ordered.true ∙ next_tests c.requires.0 c.requires.1 g h n c.is_listed-listed.ensures c.orders_no_text-ordered.ensures c.has_nodes-present.ensures c.has_room.ensures));
+    }
 
--- unturned: c.before.before.before.before.before.before.before is the place Else-s-at
 pub is_first-requires : goal.is_first-requires
 is_first-requires c =
+    let t = tests (goal.at.is_first-requires c).Else-not-listed-ordered in
     record {
-      whole = by_role (goal.at.is_first-requires c).Else-s-at;
-      listed = sym c.is_listed-listed.ensures ∙ (tests c).0;
-      there = sym c.has_nodes-present.ensures ∙ (tests c).2;
+      whole = omega (arith, ap size_by c.requires.0, size_by_lem c.args.kind);
+      listed = sym c.is_listed-listed.ensures ∙ t.0;
+      there = sym c.has_nodes-present.ensures ∙ t.2;
       few = c.requires.3;
     }
 
--- unturned: c.before.before.before.before.before.before.before.before is the place Else-s-at
--- unturned: c.before is the place Else-not-listed-ordered
--- unturned: c.before is the place Else-not-listed-ordered
--- unturned: c.before is the place Else-not-listed-ordered
--- unturned: c.before is the place Else-not-listed-ordered
 pub returns : goal.returns
 returns c =
-    (
-      λ e. next_of c.requires.0 c.requires.1 (whole (goal.at.returns c).Else-s-at) c.if-s-at-2.false (sym c.is_listed-listed.ensures ∙ (tests (goal.at.returns c).Else-not-listed-ordered).0) (sym c.orders_no_text-ordered.ensures ∙ (tests (goal.at.returns c).Else-not-listed-ordered).1) (sym c.has_nodes-present.ensures ∙ (tests (goal.at.returns c).Else-not-listed-ordered).2) (sym c.has_room.ensures ∙ (tests (goal.at.returns c).Else-not-listed-ordered).3) (λ g h. sym (c.is_first.ensures g h) ∙ e) (no_text c.args.s.now c.args.at c.args.kind c.if-s-at-2.false c.requires.4),
-      λ g h n. c.is_first.ensures g h ∙ next_first c.requires.0 c.requires.1 g h n,
-    )
+    let t = tests (goal.at.returns c).Else-not-listed-ordered in
+    record {
+      next = λ e.
+          next_of c.requires.0 c.requires.1 (omega arith) c.if-s-at-2.false
+          (sym c.is_listed-listed.ensures ∙ t.0) (sym c.orders_no_text-ordered.ensures ∙ t.1)
+          (sym c.has_nodes-present.ensures ∙ t.2) (sym c.has_room.ensures ∙ t.3)
+          (λ g h. sym (c.is_first.ensures g h) ∙ e) (no_text c.args.s.now c.args.at c.args.kind c.if-s-at-2.false c.requires.4);
+      every = λ g h n. c.is_first.ensures g h ∙ next_first c.requires.0 c.requires.1 g h n;
+    }

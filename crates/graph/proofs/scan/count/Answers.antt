@@ -8,9 +8,6 @@ use Rattle.graph.specs.Index.{Sound}
 use Rattle.ir.specs.declared.Role.TheVariants.{Property, Annihilator}
 use Rattle.graph.proofs.scan.count.Goals as goal
 
-annihilator : (c : goal.In-Annihilator) → Sound c.args.counts.nodes Annihilator c.args.s.now c.args.at
-annihilator c = rw c.in-Annihilator.is at c.requires.0
-
 pub overflow_add-more : goal.overflow_add-more
 overflow_add-more c = omega (arith, ltb-true c.args.counts.nodes 1024 (rw c.in-Node.is at c.requires.1))
 
@@ -26,13 +23,11 @@ count_property-requires c = (ltb-true c.args.counts.properties 2048 (rw c.in-Pro
 pub overflow_add-more-in-Row : goal.overflow_add-more-in-Row
 overflow_add-more-in-Row c = omega (arith, ltb-true c.args.counts.rows 1024 (rw c.in-Row.is at c.requires.1))
 
--- unturned: c.before is the place In-Annihilator
 pub bounds-s-at-in-Annihilator : goal.bounds-s-at-in-Annihilator
-bounds-s-at-in-Annihilator c = omega (arith, (annihilator (goal.at.bounds-s-at-in-Annihilator c).In-Annihilator).whole)
+bounds-s-at-in-Annihilator c = let p : Sound _ Annihilator _ _ = rw c.in-Annihilator.is at c.requires.0 in omega (arith, p.whole)
 
--- unturned: c.before is the place In-Annihilator
 pub count_annihilator-requires : goal.count_annihilator-requires
-count_annihilator-requires c = ((annihilator (goal.at.count_annihilator-requires c).In-Annihilator).listed, c.requires.2)
+count_annihilator-requires c = let p : Sound _ Annihilator _ _ = rw c.in-Annihilator.is at c.requires.0 in (p.listed, c.requires.2)
 
 pub returns-in-Unlisted : goal.returns-in-Unlisted
 returns-in-Unlisted c = λ g h. rw c.in-Unlisted.is h

@@ -1,7 +1,6 @@
 -- `ir::class::folding_before_gates` meets its contract.
 use mathlib.Core.Path.{◌≡◌, ap}
 use native.Mathlib.Omega.{arith}
-use borrow.Author.Rules.{rules}
 use Rattle.ir.specs.Classes.{folding_of}
 use Rattle.ir.proofs.class.folding_before_gates.Goals as goal
 

@@ -1,7 +1,6 @@
 -- `ir::class::is_class` meets its contract.
 use mathlib.Core.Path.{ap}
 use lib.Dec.{ltb}
-use borrow.Author.Rules.{rules}
 use Rattle.ir.specs.Classes.{class_count}
 use Rattle.ir.proofs.class.is_class.Goals as goal
 

@@ -1,6 +1,5 @@
 -- `ir::class::is_gate` meets its contract.
 use mathlib.Core.Path.{refl}
-use borrow.Author.Rules.{rules}
 use Rattle.ir.proofs.class.is_gate.Goals as goal
 
 pub returns : goal.returns

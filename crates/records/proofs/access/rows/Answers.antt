@@ -1,5 +1,4 @@
 -- `records::access::rows` meets its contract.
--- a part of the input from where the rows start, as long as they are
 use Prim.Native.Nat.{ℕ, ◌*◌, ◌-◌}
 use native.Mathlib.Omega.{arith}
 use mathlib.Core.List.{List}
@@ -11,8 +10,9 @@ use Rattle.records.specs.Access.{Accepts, rows_of, rows_offset, row_records}
 use Rattle.records.proofs.Laid.{inside, rows_part}
 use Rattle.records.proofs.access.rows.Goals as goal
 
-part : (s : List ℕ) (c : Counts) (from size : ℕ) → Accepts s c → from ≡ rows_offset (length s) c → size ≡ 5 * c.rows → (take size (drop from s) ≡ row_records s c) × (rows_of (take size (drop from s)) ≡ (graph_of s).rows)
-part s c from size a f n = rw (f, n) (refl, rows_part s c a)
+-- a part of the input from where the rows start, as long as they are
+part : (s : List ℕ) (c : Counts) (from size : ℕ) → Accepts s c → from ≡ rows_offset (length s) c → size ≡ 5 * c.rows → record { part : take size (drop from s) ≡ row_records s c; rows : rows_of (take size (drop from s)) ≡ (graph_of s).rows }
+part s c from size a f n = rw (f, n) (record { part = refl; rows = rows_part s c a })
 
 pub rows_offset-from-requires : goal.rows_offset-from-requires
 rows_offset-from-requires c = c.requires
@@ -22,6 +22,9 @@ annihilators_offset-to-requires c = c.requires
 
 pub slice_bounds-result-count : goal.slice_bounds-result-count
 slice_bounds-result-count c = omega (arith, c.annihilators_offset-to.ensures, c.rows_offset-from.ensures)
+
+pub slice_bounds-result-end : goal.slice_bounds-result-end
+slice_bounds-result-end c = omega (arith, c.annihilators_offset-to.ensures)
 
 pub returns : goal.returns
 returns c =

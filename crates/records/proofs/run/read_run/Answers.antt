@@ -22,7 +22,10 @@ index-requires c =
     let i = c.loop-role.invariant.1 in
     let p = c.requires in
     let n = c.is_next.ensures.next c.loop-role-test.true in
-    ((role_here p.0 p.1 i n, whole_here p.0 p.1 i n, sound_here p.0 p.1 i n), (omega (arith, n.inside, p.2), begun_here p.0 p.1 i n))
+    record {
+      role_value = (role_here p.0 p.1 i n, whole_here p.0 p.1 i n, sound_here p.0 p.1 i n);
+      at_bound = (omega (arith, n.inside, p.2), begun_here p.0 p.1 i n);
+    }
 
 pub count-more-requires : goal.count-more-requires
 count-more-requires c =
@@ -54,4 +57,4 @@ loop-role-preserved c =
 pub returns : goal.returns
 returns c =
     let i = c.loop-role.invariant in
-    (i, λ n. false≢true (sym c.loop-role-test.false ∙ c.is_next.ensures.every i.1.graph i.1.held n))
+    record { scanned = i; every = λ n. false≢true (sym c.loop-role-test.false ∙ c.is_next.ensures.every i.1.graph i.1.held n) }

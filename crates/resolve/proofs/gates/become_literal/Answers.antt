@@ -4,12 +4,6 @@ use Rattle.model.specs.Inputs.{optional}
 use Rattle.resolve.proofs.Trials.{no_literal, becomes_literal}
 use Rattle.resolve.proofs.gates.become_literal.Goals as goal
 
-pub enum_known-value : goal.enum_known-value
-enum_known-value c = c.in-Some.keys1
-
-pub enum_told-1 : goal.enum_told-1
-enum_told-1 c = c.in_default.keys2
-
 pub returns-in_default : goal.returns-in_default
 returns-in_default c = λ g n. no_literal g n (ap optional c.in_default.is)
 

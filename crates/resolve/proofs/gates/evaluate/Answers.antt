@@ -2,6 +2,7 @@
 use native.Mathlib.Omega.{arith}
 use mathlib.Core.Path.{sym, ◌∙◌}
 use mir.Facts.{to_z-of_z}
+use mir.Syntax.{w64}
 use Rattle.inputs.proofs.Ports.{few as few_nodes}
 use Rattle.inputs.proofs.Conditions.{has_cell_lem}
 use Rattle.inputs.proofs.Locations.{few}
@@ -53,7 +54,7 @@ returns-then-class-a c =
     let b = c.locate-2.ensures.found _ c.in-Found-locate.is in
     let d = c.locate-3.ensures.found _ c.in-Found-locate-2.is in
     let row = whole_row c.args.class c.in-Found.a.variant c.in-Found-locate.b.variant c.if-class-a.true in
-    is_whole _ _ a b d (c.covers.ensures.rows _ p.2) c.if-covers.true row.first row.second c.whole_math.ensures (sym (to_z-of_z (search rules) ∙ c.from_bits.ensures)) (sym (to_z-of_z (search rules) ∙ c.from_bits-then-class-a.ensures))
+    is_whole _ _ a b d (c.covers.ensures.rows _ p.2) c.if-covers.true row.first row.second c.whole_math.ensures (sym (to_z-of_z {w = w64} (search rules) ∙ c.from_bits.ensures)) (sym (to_z-of_z {w = w64} (search rules) ∙ c.from_bits-then-class-a.ensures))
 
 pub operand_at-x-requires : goal.operand_at-x-requires
 operand_at-x-requires c =
@@ -73,7 +74,6 @@ operand_at-z-requires c =
     let d = c.locate-3.ensures.found _ c.in-Found-locate-2.is in
     (few_nodes p.0 p.1, omega arith, p.0.properties, d.within)
 
--- unturned: c.before.before.before.Operand-at.ensures
 pub returns-then-covers : goal.returns-then-covers
 returns-then-covers c =
     let p = c.requires in
@@ -81,7 +81,7 @@ returns-then-covers c =
     let b = c.locate-2.ensures.found _ c.in-Found-locate.is in
     let d = c.locate-3.ensures.found _ c.in-Found-locate-2.is in
     c.evaluate_operands.ensures
-    ∙ is_covered _ _ a b d (c.covers.ensures.rows _ p.2) c.if-covers.true (c.before.before.before.Operand-at.ensures _ a) (c.operand_at-y.ensures _ b) (c.operand_at-z.ensures _ d)
+    ∙ is_covered _ _ a b d (c.covers.ensures.rows _ p.2) c.if-covers.true (c.operand_at-x.ensures _ a) (c.operand_at-y.ensures _ b) (c.operand_at-z.ensures _ d)
 
 pub returns : goal.returns
 returns c =

@@ -1,6 +1,5 @@
 -- `resolve::gates::evaluate_operands` meets its contract.
 use Rattle.resolve.proofs.GateValues.{gives_none, gives_non_finite, gives_value}
-use borrow.Author.Rules.{rules}
 use Rattle.resolve.proofs.gates.evaluate_operands.Goals as goal
 
 pub returns-in_default : goal.returns-in_default

@@ -1,7 +1,6 @@
 -- `resolve::gates::input_if` meets its contract.
 use mathlib.Core.Path.{◌∙◌}
 use Rattle.inputs.proofs.Conditions.{has_input, no_input}
-use borrow.Author.Rules.{rules}
 use Rattle.resolve.proofs.gates.input_if.Goals as goal
 
 pub returns-then-has : goal.returns-then-has

@@ -3,33 +3,6 @@ use mathlib.Core.Bool.{not}
 use mathlib.Core.Path.{ap}
 use Rattle.resolve.proofs.gates.is_non_finite.Goals as goal
 
-pub enum_told-1 : goal.enum_told-1
-enum_told-1 c = c.in-Int.keys1
-
-pub enum_known-v : goal.enum_known-v
-enum_known-v c = c.in-Float.keys2
-
-pub is_finite-requires : goal.is_finite-requires
-is_finite-requires c = tt
-
-pub enum_told-in-Bool : goal.enum_told-in-Bool
-enum_told-in-Bool c = c.in-Bool.keys3
-
-pub enum_told-in-Vector : goal.enum_told-in-Vector
-enum_told-in-Vector c = c.in-Vector.keys4
-
-pub enum_told-in-Rotator : goal.enum_told-in-Rotator
-enum_told-in-Rotator c = c.in-Rotator.keys5
-
-pub enum_told-in-Quat : goal.enum_told-in-Quat
-enum_told-in-Quat c = c.in-Quat.keys6
-
-pub enum_told-in-Color : goal.enum_told-in-Color
-enum_told-in-Color c = c.in-Color.keys7
-
-pub enum_told-in-Text : goal.enum_told-in-Text
-enum_told-in-Text c = c.in-Text.keys8
-
 pub returns-in-Int : goal.returns-in-Int
 returns-in-Int c = rw c.in-Int.is
 

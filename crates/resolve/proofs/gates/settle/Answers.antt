@@ -2,15 +2,6 @@
 use Rattle.resolve.proofs.GateValues.{settle_some, settle_none}
 use Rattle.resolve.proofs.gates.settle.Goals as goal
 
-pub holds_bool-requires : goal.holds_bool-requires
-holds_bool-requires c = tt
-
-pub holds_bool-requires-2 : goal.holds_bool-requires-2
-holds_bool-requires-2 c = tt
-
-pub holds_bool-requires-3 : goal.holds_bool-requires-3
-holds_bool-requires-3 c = tt
-
 pub returns-then-holds_bool : goal.returns-then-holds_bool
 returns-then-holds_bool c = settle_some _ _ _ _ c.holds_bool.ensures c.holds_bool-2.ensures c.holds_bool-3.ensures c.if-holds_bool.true
 

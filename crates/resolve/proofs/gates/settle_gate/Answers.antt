@@ -4,7 +4,6 @@ use native.Mathlib.Omega.{arith}
 use mathlib.Core.Path.{sym}
 use Rattle.resolve.proofs.Trials.{no_literal}
 use Rattle.resolve.proofs.GateValues.{annihilator_none, annihilator_some, settles_inputs}
-use borrow.Author.Rules.{rules}
 use Rattle.resolve.proofs.gates.settle_gate.Goals as goal
 
 pub returns-in_default : goal.returns-in_default

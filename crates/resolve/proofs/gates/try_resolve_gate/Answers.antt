@@ -3,7 +3,6 @@ use mathlib.Core.Path.{sym}
 use Rattle.resolve.proofs.Trials.{inputs, becomes_literal}
 use Rattle.resolve.proofs.GateValues.{gate_settled, gate_evaluated, same_value}
 use mathlib.Core.Path.{refl}
-use borrow.Author.Rules.{rules}
 use Rattle.resolve.proofs.gates.try_resolve_gate.Goals as goal
 
 pub evaluate-requires : goal.evaluate-requires

@@ -11,9 +11,8 @@ is_taken-requires c = rw c.wire-wire.ensures (c.requires.0.source _ c.requires.1
 pub count_at-requires : goal.count_at-requires
 count_at-requires c = rw c.wire-wire.ensures (c.requires.0.target _ c.requires.1)
 
--- unturned: c.before.before.before.before.before.before is the place After-wire-wire
 pub link-requires : goal.link-requires
-link-requires c = (is-taken-requires (goal.at.link-requires c).After-wire-wire κs, omega (arith, c.requires.0.few, c.requires.1))
+link-requires c = (rw c.wire-wire.ensures (c.requires.0.source _ c.requires.1), omega (arith, c.requires.0.few, c.requires.1))
 
 pub returns-then-count_at-gt0 : goal.returns-then-count_at-gt0
 returns-then-count_at-gt0 c = live_on _ _ _ _ _ _ c.requires.1 c.requires.0 _ c.wire-wire.ensures _ c.requires.2 _ _ (sym c.is_taken.ensures ∙ c.if-is_taken.true) (rw c.count_at.ensures at c.if-count_at-gt0.true) c.link.ensures.0 c.link.ensures.1

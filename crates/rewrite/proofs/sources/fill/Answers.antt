@@ -2,7 +2,6 @@
 use Prim.Native.Nat.{◌-◌, ◌<◌}
 use native.Mathlib.Omega.{arith}
 use mathlib.Core.Path.{refl}
-use borrow.Author.Tests.{not-true}
 use Rattle.records.specs.Access.{wires_of}
 use Rattle.rewrite.specs.Jumps.{Jumped}
 use Rattle.rewrite.specs.Sources.{Traced}
@@ -13,7 +12,7 @@ pub has_action-requires : goal.has_action-requires
 has_action-requires c = c.requires.0.few_nodes
 
 pub returns-then-not-has_action : goal.returns-then-not-has_action
-returns-then-not-has_action c = sources_none _ _ _ _ c.requires.1 _ refl (c.has_action.ensures.nowhere (not-true _ c.if-not-has_action.true))
+returns-then-not-has_action c = sources_none _ _ _ _ c.requires.1 _ refl (c.has_action.ensures.nowhere c.if-not-has_action.true)
 
 pub loop-far-init : goal.loop-far-init
 loop-far-init c = (traced_start _ _ _ _ c.requires.1 c.requires.0, omega arith, jump_start _ _ _ _ c.requires.1)

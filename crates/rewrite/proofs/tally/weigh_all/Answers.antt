@@ -9,8 +9,9 @@ use Rattle.records.proofs.Runs.{wires_length}
 use Rattle.model.specs.TargetCounts.{cap}
 use Rattle.rewrite.proofs.Tallying.{Scanning, scan_start, scan_stuck, scan_next, scan_end, cap_later}
 use Rattle.rewrite.proofs.tally.weigh_all.Goals as goal
+use Rattle.rewrite.proofs.tally.weigh_all.Goals.{After-wide-count}
 
-counted : (c : goal.After-wide-count) → c.loop-i.count + c.wide-count.result ≤ 4097 * (c.loop-i.i + 1)
+counted : (c : After-wide-count) → c.loop-i.count + c.wide-count.result ≤ 4097 * (c.loop-i.i + 1)
 counted c = omega (arith, c.loop-i.invariant.0, c.wide-count.ensures.0, c.if-weight-eq-NO_COUNT.false, c.weigh-weight.ensures.low)
 
 pub loop-i-init : goal.loop-i-init
@@ -33,9 +34,8 @@ pub loop-i-smaller : goal.loop-i-smaller
 loop-i-smaller c = omega arith
 
 pub loop-i-preserved : goal.loop-i-preserved
-loop-i-preserved c = (
-  counted c,
-  scan_next _ _ _ _ _ _ _ (omega (arith, wires_length c.args.wires.now)) c.loop-i.invariant.1 c.weigh-weight.ensures c.if-weight-eq-NO_COUNT.false _ (cap_later _ _ ∙ ap (λ (w : ℕ). cap (cap c.loop-i.count + w)) c.wide-count.ensures.0),
+loop-i-preserved c =
+    (counted c, scan_next _ _ _ _ _ _ _ (omega (arith, wires_length c.args.wires.now)) c.loop-i.invariant.1 c.weigh-weight.ensures c.if-weight-eq-NO_COUNT.false _ (cap_later _ _ ∙ ap (λ (w : ℕ). cap (cap c.loop-i.count + w)) c.wide-count.ensures.0))
 
 pub returns : goal.returns
 returns c = rw c.capped.ensures (scan_end _ _ _ _ _ _ (omega (arith, wires_length c.args.wires.now)) c.loop-i.invariant.1)

@@ -5,7 +5,6 @@ use native.Mathlib.Omega.{arith}
 use lib.Count.{leading_le}
 use Rattle.root.specs.Steps.{EvenShift}
 use Rattle.root.proofs.Shifts.{zeros_least, even_shift}
-use borrow.Author.Rules.{rules}
 use Rattle.root.proofs.float.even_shift.Goals as goal
 
 pub overflow_add-result : goal.overflow_add-result

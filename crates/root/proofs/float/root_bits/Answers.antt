@@ -9,7 +9,6 @@ use Rattle.root.specs.WholeRoot.{whole_root_of}
 use Rattle.root.proofs.Squares.{Floor}
 use Rattle.root.proofs.Floors.{floor_root}
 use Rattle.root.proofs.float.Scaled.{Scaled, next, scaled, root_bits}
-use borrow.Author.Rules.{rules}
 use Rattle.root.proofs.float.root_bits.Goals as goal
 
 floor : (c : goal.After-root_to_places-root) → Floor (c.args.significand * 2 ^ c.even_shift-shift.result * 4 ^ 22) c.root_to_places-root.result

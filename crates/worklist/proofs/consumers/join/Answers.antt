@@ -1,6 +1,5 @@
 -- `worklist::consumers::join` meets its contract. The measure counts down from the most wires that a chain has.
 use native.Mathlib.Omega.{arith}
-use borrow.Author.Rules.{rules}
 use Rattle.worklist.proofs.Joining.{Walking, walk_starts, walk_ends, walk_wire, walk_target, walk_left, walk_next, walk_on}
 use Rattle.worklist.proofs.consumers.join.Goals as goal
 
@@ -13,11 +12,9 @@ overflow_sub-code c = omega (arith, c.loop-code-test.true)
 pub wire-wire-requires : goal.wire-wire-requires
 wire-wire-requires c = walk_wire c.loop-code.invariant c.loop-code-test.true
 
--- unturned: w.before is the place In-loop-code
 pub join_one-total-requires : goal.join_one-total-requires
 join_one-total-requires c =
-    let l = (goal.at.join_one-total-requires c).In-loop-code in
-    (walk_target l.before.loop.invariant l.loop-test.true c.wire-wire.ensures, l.before.loop.invariant.queued)
+    (walk_target c.loop-code.invariant c.loop-code-test.true c.wire-wire.ensures, c.loop-code.invariant.queued)
 
 pub overflow_sub-code-in-loop-code : goal.overflow_sub-code-in-loop-code
 overflow_sub-code-in-loop-code c = omega (arith, c.loop-code-test.true)
@@ -38,12 +35,9 @@ pub loop-code-smaller : goal.loop-code-smaller
 loop-code-smaller c =
     omega (arith, walk_left c.loop-code.invariant c.loop-code-test.true)
 
--- unturned: j.before.before.before is the place After-join_one-arg-1
 pub loop-code-preserved : goal.loop-code-preserved
 loop-code-preserved c =
-    let w = (goal.at.loop-code-preserved c).After-join_one-arg-1 in
-    let l = w.before in
-    walk_on l.before.loop.invariant l.loop-test.true w.wire.ensures c.join_one-total.ensures c.wide-code-in-loop-code.ensures.0
+    walk_on c.loop-code.invariant c.loop-code-test.true c.wire-wire.ensures c.join_one-total.ensures c.wide-code-in-loop-code.ensures.0
 
 pub returns : goal.returns
 returns c = walk_ends c.loop-code.invariant c.loop-code-test.false

@@ -3,12 +3,12 @@
 use native.Mathlib.Omega.{arith}
 use mathlib.Core.List.{[]}
 use Prim.Native.Nat.{◌<◌}
-use borrow.Author.Rules.{rules}
 use Rattle.model.specs.Worklist.{queue_places}
 use Rattle.worklist.proofs.Joining.{one_known, one_waits, one_place, one_joins}
 use Rattle.worklist.proofs.consumers.join_one.Goals as goal
+use Rattle.worklist.proofs.consumers.join_one.Goals.{Else-is_known}
 
-left : (c : goal.Else-is_known) → c.args.count < queue_places
+left : (c : Else-is_known) → c.args.count < queue_places
 left c =
     let p = c.requires in
     one_place [] _ _ _ _ _ p.1 p.0 c.if-marks-c.false
@@ -16,22 +16,16 @@ left c =
 pub returns-then-marks-c : goal.returns-then-marks-c
 returns-then-marks-c c = let p = c.requires in one_waits _ _ _ _ _ _ p.1 p.0 c.if-marks-c.true
 
--- unturned: c.before.is_Known.ensures
 pub returns-then-is_known : goal.returns-then-is_known
-returns-then-is_known c = one_known _ _ _ _ _ _ c.requires.1 c.before.is_Known.ensures c.if-is_known.true
+returns-then-is_known c = one_known _ _ _ _ _ _ c.requires.1 c.is_known.ensures c.if-is_known.true
 
--- unturned: c.before is the place Else-is_known
 pub push-requires : goal.push-requires
 push-requires c = let p = c.requires in (p.1.head_in, left (goal.at.push-requires c).Else-is_known, p.0)
 
--- unturned: c.before.before is the place Else-is_known
 pub overflow_add-result : goal.overflow_add-result
 overflow_add-result c = record { fits = omega (arith, left (goal.at.overflow_add-result c).Else-is_known) }
 
--- unturned: d.before.before is the place Else-marks-c
--- unturned: d.before.is_Known.ensures
 pub returns : goal.returns
 returns c =
-    let b = (goal.at.returns c).Else-marks-c in
-    let p = b.before.before.requires in
-    one_joins _ _ _ _ _ _ p.1 p.0 b.if1.false d.before.is_Known.ensures c.if-is_known.false c.push.ensures
+    let p = c.requires in
+    one_joins _ _ _ _ _ _ p.1 p.0 c.if-marks-c.false c.is_known.ensures c.if-is_known.false c.push.ensures

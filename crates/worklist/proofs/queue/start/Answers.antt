@@ -1,5 +1,4 @@
 -- `worklist::queue::start` meets its contract.
-use borrow.Author.Rules.{rules}
 use Rattle.worklist.proofs.Queues.{queued_none, filled}
 use Rattle.worklist.proofs.queue.start.Goals as goal
 

@@ -1,6 +1,5 @@
 -- `worklist::queue::Queue::rest` meets its contract.
 use mathlib.Core.Path.{refl}
-use borrow.Author.Rules.{rules}
 use Rattle.worklist.proofs.queue.Queue.rest.Goals as goal
 
 pub returns : goal.returns
