@@ -158,7 +158,7 @@ property_back {node} {port} {v} {l} {s} {at} room w {past} e k f given n =
     let kind : byte s at ≡ kind_of v = byte_back (kind_of v) s at (left (kind_of v ∷ []) (bytes_of 2 node) s at head) in
     record {
       kind = kind;
-      node_id_lem = number_back 2 node s (at + 1) n (right (kind_of v ∷ []) (bytes_of 2 node) s at head (at + 1) refl);
+      node_id = number_back 2 node s (at + 1) n (right (kind_of v ∷ []) (bytes_of 2 node) s at head (at + 1) refl);
       its_port = byte_back port s (at + 3) (left (port ∷ []) (value_bytes v) s (at + 3) rest);
       value = ap (λ (k : ℕ). value_at k s (at + 4)) kind ∙ ap (value_at (kind_of v) s) (sym e) ∙ ap (λ (j : ℕ). value_at j s past) f ∙ given;
     }

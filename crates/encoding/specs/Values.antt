@@ -92,7 +92,7 @@ property_bytes node port v = head_bytes (kind_of v) node ++ (port ∷ value_byte
 -- "node 2, port 1, value 8": what is read of the record of a property
 pub record PropertyBack (node port : ℕ) (v : Value) (s : List ℕ) (at : ℕ) : Type 0 where
   pub kind : byte s at ≡ kind_of v
-  pub node_id_lem : u16_at s (at + 1) ≡ node
+  pub node_id : u16_at s (at + 1) ≡ node
   pub its_port : byte s (at + 3) ≡ port
   pub value : value_at (byte s at) s (at + 4) ≡ v
 

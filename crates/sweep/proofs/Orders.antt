@@ -96,7 +96,7 @@ module _ (eligible : ℕ → Bool) (ws : List Wire) where
   removed_taken removed k n l b r =
       taken_next k n r.allowed
       (none_stronger (alive k n) (λ w. not (member w.target.node_id removed) && leaves n w) weaker ws
-      (sym (any_keep (λ w. not (member w.target.node_id removed)) (leaves n) ws) ∙ (ap (any (leaves n)) (sym b.wires_left_lem) ∙ r.no_wire_lem)))
+      (sym (any_keep (λ w. not (member w.target.node_id removed)) (leaves n) ws) ∙ (ap (any (leaves n)) (sym b.wires_left_lem) ∙ r.no_wire)))
     where
       weaker : (w : Wire) → alive k n w ≡ true → (not (member w.target.node_id removed) && leaves n w) ≡ true
       weaker w a =
@@ -152,7 +152,7 @@ module _ (eligible : ℕ → Bool) (ws : List Wire) where
         record {
           there = ap (member n) (left_nodes rs) ∙ (member_keep (λ m. not (member m ns)) n (up_to nodes) ∙ rw (m, member_up_to n nodes (below n e)));
           allowed = e;
-          no_wire_lem = ap (any (leaves n)) (left_wires rs) ∙ (any_keep (λ w. not (member w.target.node_id ns)) (leaves n) ws ∙ a);
+          no_wire = ap (any (leaves n)) (left_wires rs) ∙ (any_keep (λ w. not (member w.target.node_id ns)) (leaves n) ws ∙ a);
         }
 
     enters_left : (k n : ℕ) → ((t : ℕ) → taken_after eligible ws k t ≡ true → member t ns ≡ true) → (w : Wire) → (not (member w.target.node_id ns) && leaves n w) ≡ true → alive k n w ≡ true
@@ -192,11 +192,11 @@ module _ (eligible : ℕ → Bool) (ws : List Wire) where
 
   found : (l : Left) (f : Found (removable? l) l.nodes) → Removable eligible l f.at
   unfolding removable?
-  found l f = record { there = f.within; allowed = and_left (eligible f.at) _ f.passes; no_wire_lem = not-true _ (and_right (eligible f.at) _ f.passes) }
+  found l f = record { there = f.within; allowed = and_left (eligible f.at) _ f.passes; no_wire = not-true _ (and_right (eligible f.at) _ f.passes) }
 
   none_found : (l : Left) → ((n : ℕ) → member n l.nodes ≡ true → removable? l n ≡ false) → Going l
   unfolding Going removable?
-  none_found l h = ([], l, stop, λ n r. true≢false (sym (both (eligible n) _ r.allowed (rw r.no_wire_lem)) ∙ h n r.there))
+  none_found l h = ([], l, stop, λ n r. true≢false (sym (both (eligible n) _ r.allowed (rw r.no_wire)) ∙ h n r.there))
 
   fewer_nodes : (l : Left) (n : ℕ) → Removable eligible l n → length (remove l n).nodes < length l.nodes
   unfolding remove

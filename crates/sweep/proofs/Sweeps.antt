@@ -81,7 +81,7 @@ module _ {nodes : ℕ} {ws : List Wire} {eligible : List Bool} {degrees : List �
               ∙ (member_keep (λ m. not (member m (take head order))) (get_or order head 0) (up_to nodes)
               ∙ rw (s.queued.once head front, member_up_to (get_or order head 0) nodes below));
           allowed = is_eligible;
-          no_wire_lem =
+          no_wire =
               count_none (leaves (get_or order head 0)) s.left.wires
               (sym (length_keep (leaves (get_or order head 0)) s.left.wires) ∙ (sym (s.degree (get_or order head 0) below) ∙ eqb-true _ 0 (and_right (eligible_in eligible (get_or order head 0)) _ goes)));
         }
@@ -130,7 +130,7 @@ module _ {nodes : ℕ} {ws : List Wire} {eligible : List Bool} {degrees : List �
       done : Finished (eligible_in eligible) s.left
       done n r =
           let b : n < nodes = within n r.allowed in
-          let z : get_or degrees n 0 ≡ 0 = s.degree n b ∙ (length_keep (leaves n) s.left.wires ∙ none_count (leaves n) s.left.wires r.no_wire_lem) in
+          let z : get_or degrees n 0 ≡ 0 = s.degree n b ∙ (length_keep (leaves n) s.left.wires ∙ none_count (leaves n) s.left.wires r.no_wire) in
           let m : member n (take head order) ≡ true =
           ap (λ (k : ℕ). member n (take k order)) (sym same) ∙ (s.queued.listed n ∙ (s.queued.marked n (omega arith) ∙ both (eligible_in eligible n) _ r.allowed (eq-eqb (get_or degrees n 0) 0 z))) in
           true≢false (sym (and_left _ _ (sym (member_keep (λ m. not (member m (take head order))) n (up_to nodes)) ∙ (ap (member n) (sym (left_nodes s.removals)) ∙ r.there))) ∙ ap not m)

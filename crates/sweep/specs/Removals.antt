@@ -17,7 +17,7 @@ pub record Left : Type 0 where
 pub record Removable (eligible : ℕ → Bool) (l : Left) (n : ℕ) : Type 0 where
   pub there : member n l.nodes ≡ true
   pub allowed : eligible n ≡ true
-  pub no_wire_lem : any (leaves n) l.wires ≡ false
+  pub no_wire : any (leaves n) l.wires ≡ false
 
 -- "goes, its incoming wires go with it"
 unfoldable pub remove : Left → ℕ → Left

@@ -1,6 +1,5 @@
 -- `encoding::numbers::read_u16` meets its contract.
 use native.Mathlib.Omega.{arith}
-use borrow.Author.Rules.{rules}
 use Rattle.encoding.specs.Numbers.{number_at}
 use Rattle.encoding.proofs.numbers.read_u16.Goals as goal
 

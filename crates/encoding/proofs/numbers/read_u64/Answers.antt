@@ -1,7 +1,6 @@
 -- `encoding::numbers::read_u64` meets its contract.
 use native.Mathlib.Omega.{arith}
 use native.Mathlib.Nat.{add_assoc}
-use borrow.Author.Rules.{rules}
 use Rattle.encoding.specs.Numbers.{number_at}
 use Rattle.encoding.proofs.numbers.read_u64.Goals as goal
 

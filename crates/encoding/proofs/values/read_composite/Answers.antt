@@ -2,7 +2,6 @@
 use native.Mathlib.Omega.{arith}
 use mathlib.Core.Path.{◌≡◌}
 use borrow.Author.Tests.{eq-eqb, ne_eqb}
-use borrow.Author.Rules.{rules}
 use Rattle.encoding.specs.Values.{composite_or_text_at}
 use Rattle.encoding.proofs.Sizes.{composite}
 use Rattle.encoding.proofs.values.read_composite.Goals as goal

@@ -1,7 +1,6 @@
 -- `encoding::values::read_float` meets its contract.
 use mathlib.Core.Path.{◌∙◌, ap}
 use lib.Ieee.{of_bits, binary64}
-use borrow.Author.Rules.{rules}
 use Rattle.encoding.proofs.values.read_float.Goals as goal
 
 pub returns : goal.returns

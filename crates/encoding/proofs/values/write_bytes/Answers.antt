@@ -3,7 +3,6 @@ use native.Mathlib.Omega.{arith}
 use mathlib.Core.Path.{sym, ap, ◌∙◌}
 use mathlib.Core.List.{[], ◌∷◌}
 use lib.ListN.{length}
-use borrow.Author.Rules.{rules}
 use Rattle.encoding.specs.Numbers.{bytes_of}
 use Rattle.encoding.specs.Values.{float_bytes, value_bytes}
 use Rattle.encoding.proofs.Sizes.{property_kind, is_text_lem}

@@ -2,7 +2,6 @@
 use native.Mathlib.Omega.{arith}
 use mathlib.Core.Path.{ap}
 use lib.ListN.{length}
-use borrow.Author.Rules.{rules}
 use Rattle.encoding.specs.Numbers.{bytes_of}
 use Rattle.encoding.proofs.Splices.{written_length, written_more, same_written}
 use Rattle.encoding.proofs.Held.{three_held, four_held, three_least}

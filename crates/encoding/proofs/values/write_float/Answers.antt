@@ -1,5 +1,4 @@
 -- `encoding::values::write_float` meets its contract.
-use borrow.Author.Rules.{rules}
 use Rattle.encoding.proofs.values.write_float.Goals as goal
 
 pub returns : goal.returns

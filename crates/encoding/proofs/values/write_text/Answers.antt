@@ -2,7 +2,6 @@
 use native.Mathlib.Omega.{arith}
 use Rattle.encoding.specs.Numbers.{bytes_of}
 use Rattle.encoding.proofs.Splices.{written_length, written_more}
-use borrow.Author.Rules.{rules}
 use Rattle.encoding.proofs.values.write_text.Goals as goal
 
 pub write_u64-requires : goal.write_u64-requires

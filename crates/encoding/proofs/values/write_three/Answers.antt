@@ -1,6 +1,5 @@
 -- `encoding::values::write_three` meets its contract.
 use native.Mathlib.Omega.{arith}
-use borrow.Author.Rules.{rules}
 use Rattle.encoding.specs.Numbers.{bytes_of}
 use Rattle.encoding.proofs.Splices.{written_length, written_more}
 use Rattle.encoding.proofs.values.write_three.Goals as goal

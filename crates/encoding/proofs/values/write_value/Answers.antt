@@ -2,7 +2,6 @@
 use native.Mathlib.Omega.{arith}
 use mathlib.Core.Path.{sym, ap}
 use mathlib.Core.List.{◌∷◌, ◌++◌}
-use borrow.Author.Rules.{rules}
 use Rattle.encoding.specs.Numbers.{bytes_of}
 use Rattle.encoding.specs.Values.{head_bytes, value_bytes}
 use Rattle.encoding.specs.Words.{held_by}

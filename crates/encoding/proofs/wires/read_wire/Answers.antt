@@ -1,5 +1,4 @@
 -- `encoding::wires::read_wire` meets its contract.
-use borrow.Author.Rules.{rules}
 use Rattle.encoding.proofs.wires.read_wire.Goals as goal
 
 pub returns : goal.returns

@@ -1,7 +1,6 @@
 -- `encoding::wires::write_wire` meets its contract.
 use native.Mathlib.Omega.{arith}
 use lib.ListN.{length-set}
-use borrow.Author.Rules.{rules}
 use Rattle.encoding.specs.Numbers.{bytes_of}
 use Rattle.encoding.proofs.Splices.{stored_7}
 use Rattle.encoding.proofs.ReadBack.{wire_back}

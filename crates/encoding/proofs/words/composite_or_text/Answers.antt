@@ -1,6 +1,5 @@
 -- `encoding::words::composite_or_text` meets its contract.
 use borrow.Author.Tests.{eq-eqb, ne_eqb}
-use borrow.Author.Rules.{rules}
 use Rattle.encoding.specs.Words.{held_composite_or_text}
 use Rattle.encoding.proofs.words.composite_or_text.Goals as goal
 

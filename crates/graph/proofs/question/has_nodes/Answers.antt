@@ -1,7 +1,6 @@
 -- `graph::question::has_nodes` meets its contract.
 use native.Mathlib.Omega.{arith}
 use mathlib.Core.Path.{ap}
-use borrow.Author.Rules.{rules}
 use Rattle.graph.specs.Layout.{size_by}
 use Rattle.graph.proofs.question.has_nodes.Goals as goal
 

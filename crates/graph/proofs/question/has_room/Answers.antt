@@ -1,5 +1,4 @@
 -- `graph::question::has_room` meets its contract.
-use borrow.Author.Rules.{rules}
 use Rattle.graph.proofs.question.has_room.Goals as goal
 
 pub returns-in-Node : goal.returns-in-Node

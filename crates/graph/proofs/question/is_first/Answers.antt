@@ -1,11 +1,10 @@
 -- `graph::question::is_first` meets its contract.
-use Prim.Native.Nat.{◌+◌, ℕ, ◌<◌}
+use Prim.Native.Nat.{◌+◌, ℕ}
 use native.Mathlib.Omega.{arith}
 use mathlib.Core.Bool.{not}
 use mathlib.Core.Path.{◌∙◌, ap}
 use lib.ListN.{get_or}
 use lib.Dec.{eqb}
-use borrow.Author.Rules.{rules}
 use Rattle.graph.specs.Index.{slot, Sound}
 use Rattle.encoding.specs.Numbers.{byte, u16_at}
 use Rattle.graph.specs.Questions.{is_none}

@@ -1,7 +1,6 @@
 -- `graph::question::is_listed` meets its contract.
 use native.Mathlib.Omega.{arith}
 use mathlib.Core.Path.{ap}
-use borrow.Author.Rules.{rules}
 use Rattle.graph.specs.Layout.{size_by}
 use Rattle.graph.proofs.question.is_listed.Goals as goal
 

@@ -1,5 +1,4 @@
 -- `graph::question::is_listed_node` meets its contract.
-use borrow.Author.Rules.{rules}
 use Rattle.graph.proofs.question.is_listed_node.Goals as goal
 
 pub returns : goal.returns

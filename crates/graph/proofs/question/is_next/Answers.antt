@@ -1,12 +1,10 @@
 -- `graph::question::is_next` meets its contract.
-use Prim.Native.Nat.{ℕ, ◌+◌, ◌≤◌}
+use Prim.Native.Nat.{ℕ}
 use native.Mathlib.Omega.{arith}
 use mathlib.Core.Bool.{Bool, true, false≢true, ◌&&◌}
 use mathlib.Core.Path.{◌≡◌, refl, ◌∙◌, sym, ap}
 use mathlib.Core.List.{List}
-use lib.ListN.{length}
 use borrow.Author.Tests.{ne_eqb}
-use borrow.Author.Rules.{rules}
 use Rattle.ir.specs.Kinds.{text_kind}
 use Rattle.encoding.specs.Numbers.{byte}
 use Rattle.graph.specs.Questions.{has_listed_text}

@@ -2,7 +2,6 @@
 use Rattle.graph.specs.Layout.{size_by}
 use mathlib.Core.Path.{ap}
 use native.Mathlib.Omega.{arith}
-use borrow.Author.Rules.{rules}
 use Rattle.graph.proofs.question.orders_no_text.Goals as goal
 
 pub row_orders_no_text-requires : goal.row_orders_no_text-requires

@@ -1,5 +1,4 @@
 -- `graph::question::row_orders_no_text` meets its contract.
-use borrow.Author.Rules.{rules}
 use Rattle.graph.proofs.question.row_orders_no_text.Goals as goal
 
 pub returns : goal.returns

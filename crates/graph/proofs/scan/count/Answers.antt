@@ -3,7 +3,6 @@ use native.Mathlib.Omega.{arith}
 use mathlib.Core.Path.{refl, sym, ◌∙◌}
 use lib.ListN.{length-append}
 use borrow.Author.Tests.{ltb-true}
-use borrow.Author.Rules.{rules}
 use Rattle.graph.specs.Index.{Sound}
 use Rattle.ir.specs.declared.Role.TheVariants.{Property, Annihilator}
 use Rattle.graph.proofs.scan.count.Goals as goal

@@ -1,7 +1,6 @@
 -- `graph::scan::count_annihilator` meets its contract.
 use mathlib.Core.Bool.{or-true, or-false}
 use lib.ListN.{length-append}
-use borrow.Author.Rules.{rules}
 use Rattle.graph.proofs.Added.{member_snoc, second}
 use Rattle.graph.proofs.scan.count_annihilator.Goals as goal
 

@@ -2,7 +2,6 @@
 use Rattle.graph.proofs.Added.{one_text, no_text}
 use mathlib.Core.Path.{sym, ◌∙◌}
 use lib.ListN.{length-append}
-use borrow.Author.Rules.{rules}
 use Rattle.graph.proofs.scan.count_property.Goals as goal
 
 pub returns-then-kind-eq-TEXT : goal.returns-then-kind-eq-TEXT

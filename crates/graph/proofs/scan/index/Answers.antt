@@ -3,7 +3,6 @@ use Prim.Native.Nat.{◌+◌, ◌<◌}
 use native.Mathlib.Omega.{arith}
 use mathlib.Core.Path.{◌∙◌, sym}
 use borrow.Author.Tests.{ltb-true}
-use borrow.Author.Rules.{rules}
 use Rattle.encoding.specs.Numbers.{u16_at}
 use Rattle.graph.specs.Index.{Sound}
 use Rattle.ir.specs.declared.Role.TheVariants.{Property}
