@@ -18,7 +18,7 @@ use Rattle.model.specs.Offer.{PlanAction}
 use Rattle.model.specs.Worklist.{worklist}
 use Rattle.model.specs.Rewrite.{rewrite_wires}
 use Rattle.model.specs.Answer.{each, known_bytes, fate_bytes, answer}
-use Rattle.model.specs.Outcome.{endless_index, wire_offset, ending, counted, wires, Result, folds, refuses, measured, rewritten, answered, fold_graph, fold_bytes}
+use Rattle.model.specs.Outcome.{endless_index, wire_offset, ending, counted, Result, folds, refuses, measured, rewritten, answered, fold_graph, fold_bytes}
 use Rattle.model.proofs.Each.{wires_size}
 use Rattle.state.specs.Planned.{shape_at, shape_of, literal_of, valued, plan_of, Holds}
 use Rattle.answer.specs.Nodes.{known_records, literal_fate, fate_by, fate_records}

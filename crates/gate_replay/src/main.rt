@@ -5,7 +5,6 @@
 ghost use Rattle.std.specs.Prelude.{◌≡◌, true, ◌≤◌};
 ghost use Rattle.gate_cases.specs.Cases.{given_of, answer_bytes};
 
-
 const STDIN_FILENO: i32 = 0;
 
 const STDOUT_FILENO: i32 = 1;

@@ -3,11 +3,11 @@ use Prim.Native.Nat.{ℕ, zero, suc, ◌+◌, ◌-◌, ◌*◌, ◌/◌, ◌%◌
 use Prim.Native.Char.{code}
 use native.Mathlib.Omega.{arith}
 use native.Mathlib.Nat.{sub-zero, div-div-eq-div-mul}
-use mathlib.Core.Path.{◌≡◌, refl, sym, ap, ap₂, subst, ◌∙◌}
+use mathlib.Core.Path.{◌≡◌, refl, sym, ap, ap₂, ◌∙◌}
 use mathlib.Core.Bool.{Bool, true, false, cond}
 use mathlib.Core.List.{List, [], ◌∷◌, ◌++◌, append_assoc, append-nil}
 use lib.Dec.{ltb}
-use lib.ListN.{length, get_or, take, drop, replicate, length-append, length-drop, length-replicate, replicate-append-replicate}
+use lib.ListN.{length, get_or, take, drop, length-append, length-drop, length-replicate, replicate-append-replicate}
 use lib.Seq.{take-suc, take-length, take_at, drop-append-le, drop-append-add, length-take-le}
 use borrow.Author.Tests.{lt-ltb, le-ltb, ltb-true, ltb-false}
 use Rattle.ir.specs.Limits.{line_width, line_bytes}
@@ -20,9 +20,9 @@ use Rattle.model.proofs.Maps.{by_bool}
 use Rattle.answer.proofs.Fill.{Filling, fill_end}
 use Rattle.sheet_line.specs.declared.Fate.{Fate}
 use Rattle.sheet_line.specs.declared.Line.{Line}
-use Rattle.sheet_line.specs.Characters.{space, spaces, digit, aligned, hex_digit, hex, head_text, letter_of, numbers_of, number_text, fate_text, text, filled, ended}
+use Rattle.sheet_line.specs.Characters.{space, spaces, digit, aligned, hex, head_text, letter_of, numbers_of, number_text, fate_text, text, filled, ended}
 use Rattle.sheet_line.proofs.Lanes.{half_digits}
-use Rattle.sheet_line.proofs.Widths.{hex_length, number_length, head_length, text_fits, ended_length}
+use Rattle.sheet_line.proofs.Widths.{hex_length, number_length, text_fits, ended_length}
 
 -- what a write leaves of the room
 pub after : {xs l m : List ℕ} {i j : ℕ} → Written xs l m i j → (n : ℕ) → i + length xs + n ≤ length l → j + n ≤ length m

@@ -2,7 +2,6 @@
 use mathlib.Core.Path.{sym}
 use native.Mathlib.Omega.{arith}
 use native.Mathlib.Nat.{le_trans}
-use borrow.Author.Rules.{rules}
 use Rattle.model.proofs.Each.{sizes_most}
 use Rattle.state.specs.Held.{known_of}
 use Rattle.answer.proofs.NodeSizes.{scalar_sizes, count_low}

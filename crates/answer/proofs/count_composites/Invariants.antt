@@ -1,15 +1,9 @@
 -- `answer::count_composites` meets its contract.
 use Prim.Native.Nat.{ℕ, ◌+◌, ◌-◌, ◌*◌, ◌≤◌}
-use native.Mathlib.Omega.{arith}
-use native.Mathlib.Nat.{le_trans}
-use mathlib.Core.Path.{◌≡◌, sym, ap₂, ◌∙◌}
+use mathlib.Core.Path.{◌≡◌}
 use mathlib.Core.List.{List}
 use lib.ListN.{length}
-use borrow.Author.Rules.{rules}
-use Rattle.state.specs.Held.{known_of}
 use Rattle.answer.specs.Nodes.{known_records, fate_records, composite_count}
-use Rattle.answer.proofs.Fill.{sizes_none, sizes_more}
-use Rattle.answer.proofs.NodeSizes.{most_sizes, count_none, count_more}
 use Rattle.answer.proofs.count_composites.Given as goal
 
 abbrev pub invariant-loop-i : goal.invariant-loop-i

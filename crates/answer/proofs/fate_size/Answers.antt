@@ -1,7 +1,6 @@
 -- `answer::fate_size` meets its contract.
 use native.Mathlib.Omega.{arith}
 use mathlib.Core.Path.{◌∙◌}
-use borrow.Author.Rules.{rules}
 use Rattle.answer.proofs.NodeSizes.{fate_other, fate_unknown, fate_literal, body_small, some_kind}
 use Rattle.answer.proofs.fate_size.Goals as goal
 

@@ -2,7 +2,6 @@
 use Prim.Native.Nat.{ℕ, ◌+◌, ◌≤◌}
 use native.Mathlib.Omega.{arith}
 use mathlib.Core.Path.{ap, ◌∙◌}
-use borrow.Author.Rules.{rules}
 use Rattle.answer.proofs.NodeSizes.{known_none, known_some, body_small, some_kind}
 use Rattle.answer.proofs.known_size.Goals as goal
 

@@ -4,7 +4,6 @@ use native.Mathlib.Nat.{le_trans}
 use mathlib.Core.Path.{sym, ap}
 use Prim.Native.Nat.{ℕ}
 use lib.Dec.{leb}
-use borrow.Author.Rules.{rules}
 use borrow.Author.Tests.{le-leb}
 use Rattle.answer.proofs.nodes_fit.Goals as goal
 

@@ -1,13 +1,9 @@
 -- `answer::nodes_size` meets its contract.
 use Prim.Native.Nat.{ℕ, ◌+◌, ◌-◌, ◌*◌, ◌≤◌}
-use native.Mathlib.Omega.{arith}
 use mathlib.Core.Path.{◌≡◌}
 use mathlib.Core.List.{List}
 use lib.ListN.{length}
-use borrow.Author.Rules.{rules}
-use Rattle.state.specs.Held.{known_of}
 use Rattle.answer.specs.Nodes.{known_records, fate_records}
-use Rattle.answer.proofs.Fill.{sizes_start, sizes_next}
 use Rattle.answer.proofs.nodes_size.Given as goal
 
 abbrev pub invariant-loop-i : goal.invariant-loop-i

@@ -4,7 +4,6 @@ use mathlib.Core.Path.{ap}
 use mathlib.Core.Bool.{cond}
 use lib.Dec.{eqb}
 use lib.ListN.{length}
-use borrow.Author.Rules.{rules}
 use Rattle.state.specs.Held.{known_of}
 use Rattle.state.proofs.Values.{unknown_at, known_at}
 use Rattle.answer.proofs.NodeSizes.{some_kind, by_plain, by_unknown, by_literal, head_size}

@@ -1,11 +1,6 @@
 -- `answer::write_fates` meets its contract.
-use Prim.Native.Nat.{◌-◌}
 use native.Mathlib.Omega.{arith}
-use lib.ListN.{get_or}
-use borrow.Author.Rules.{rules}
-use Rattle.state.specs.Held.{known_of}
-use Rattle.answer.specs.Nodes.{fate_by}
-use Rattle.answer.proofs.Fill.{Filling, fill_start, fill_long, fill_room, fill_next, fill_end}
+use Rattle.answer.proofs.Fill.{fill_start, fill_long, fill_room, fill_next, fill_end}
 use Rattle.answer.proofs.write_fates.Goals as goal
 
 pub loop-i-init : goal.loop-i-init

@@ -1,11 +1,9 @@
 -- `answer::write_fates` meets its contract.
 use Prim.Native.Nat.{◌-◌}
-use native.Mathlib.Omega.{arith}
 use lib.ListN.{get_or}
-use borrow.Author.Rules.{rules}
 use Rattle.state.specs.Held.{known_of}
 use Rattle.answer.specs.Nodes.{fate_by}
-use Rattle.answer.proofs.Fill.{Filling, fill_start, fill_long, fill_room, fill_next, fill_end}
+use Rattle.answer.proofs.Fill.{Filling}
 use Rattle.answer.proofs.write_fates.Given as goal
 
 abbrev pub invariant-loop-i : goal.invariant-loop-i

@@ -1,6 +1,5 @@
 -- `answer::write_known` meets its contract.
 use native.Mathlib.Omega.{arith}
-use borrow.Author.Rules.{rules}
 use Rattle.state.proofs.Values.{unknown_at, known_at}
 use Rattle.answer.proofs.Fill.{written_none}
 use Rattle.answer.proofs.NodeSizes.{some_kind, bytes_none, bytes_some, port_room}

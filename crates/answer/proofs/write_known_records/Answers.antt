@@ -1,10 +1,6 @@
 -- `answer::write_known_records` meets its contract.
-use Prim.Native.Nat.{◌-◌}
 use native.Mathlib.Omega.{arith}
-use borrow.Author.Rules.{rules}
-use Rattle.model.specs.Answer.{known_bytes}
-use Rattle.state.specs.Held.{known_of}
-use Rattle.answer.proofs.Fill.{Filling, fill_start, fill_long, fill_room, fill_next, fill_end}
+use Rattle.answer.proofs.Fill.{fill_start, fill_long, fill_room, fill_next, fill_end}
 use Rattle.answer.proofs.write_known_records.Goals as goal
 
 pub loop-i-init : goal.loop-i-init

@@ -3,7 +3,6 @@ use Prim.Native.Nat.{◌+◌}
 use native.Mathlib.Omega.{arith}
 use mathlib.Core.Path.{ap, sym}
 use mathlib.Core.List.{◌++◌}
-use borrow.Author.Rules.{rules}
 use Rattle.encoding.specs.Numbers.{bytes_of}
 use Rattle.encoding.specs.Values.{head_bytes, value_bytes}
 use Rattle.encoding.specs.Words.{held_by}

@@ -1,7 +1,6 @@
 -- `answer::write_nodes` meets its contract.
 use native.Mathlib.Omega.{arith}
 use lib.ListN.{length-append}
-use borrow.Author.Rules.{rules}
 use Rattle.encoding.proofs.Splices.{written_length, written_more}
 use Rattle.answer.specs.Nodes.{known_records, fate_records}
 use Rattle.answer.proofs.write_nodes.Goals as goal

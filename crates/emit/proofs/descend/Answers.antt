@@ -2,10 +2,8 @@
 use mathlib.Core.Path.{ap}
 use Prim.Native.Nat.{ℕ, ◌-◌}
 use native.Mathlib.Omega.{arith}
-use borrow.Author.Rules.{rules}
 use Rattle.ir.specs.declared.Wire.{Wire}
-use Rattle.records.specs.Access.{wires_of}
-use Rattle.emit.proofs.Stack.{Tracks, track_start, track_low, stepped, track_step, track_end}
+use Rattle.emit.proofs.Stack.{track_start, track_low, stepped, track_step, track_end}
 use Rattle.emit.proofs.descend.Goals as goal
 
 pub wire-target-requires : goal.wire-target-requires

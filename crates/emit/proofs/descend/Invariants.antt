@@ -1,11 +1,6 @@
 -- `emit::descend` meets its contract.
-use mathlib.Core.Path.{ap}
-use Prim.Native.Nat.{ℕ, ◌-◌}
-use native.Mathlib.Omega.{arith}
-use borrow.Author.Rules.{rules}
-use Rattle.ir.specs.declared.Wire.{Wire}
 use Rattle.records.specs.Access.{wires_of}
-use Rattle.emit.proofs.Stack.{Tracks, track_start, track_low, stepped, track_step, track_end}
+use Rattle.emit.proofs.Stack.{Tracks}
 use Rattle.emit.proofs.descend.Given as goal
 
 abbrev pub invariant-loop-target : goal.invariant-loop-target

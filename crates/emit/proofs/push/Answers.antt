@@ -1,7 +1,6 @@
 -- `emit::push` meets its contract.
 use mathlib.Core.Path.{refl}
 use native.Mathlib.Omega.{arith}
-use borrow.Author.Rules.{rules}
 use Rattle.emit.proofs.push.Goals as goal
 
 pub returns-then-code-eq0 : goal.returns-then-code-eq0

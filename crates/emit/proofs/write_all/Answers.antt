@@ -1,17 +1,12 @@
 -- `emit::write_all` meets its contract.
-use mathlib.Core.Path.{◌≡◌}
-use Prim.Native.Nat.{ℕ, ◌-◌}
+use Prim.Native.Nat.{ℕ}
 use native.Mathlib.Omega.{arith}
-use lib.ListN.{length, get_or, length-replicate}
-use borrow.Author.Rules.{rules}
-use Rattle.ir.specs.Limits.{max_wires}
-use Rattle.encoding.specs.Wires.{wire_bytes}
+use lib.ListN.{get_or, length-replicate}
 use Rattle.records.specs.Access.{wires_of, no_wire}
 use Rattle.records.proofs.Runs.{wires_length}
-use Rattle.model.specs.Answer.{each}
 use Rattle.model.proofs.Each.{wires_size}
 use Rattle.state.specs.Planned.{shape_of}
-use Rattle.answer.proofs.Fill.{Filling, fill_start, fill_long, fill_room, fill_next, fill_end}
+use Rattle.answer.proofs.Fill.{fill_start, fill_long, fill_room, fill_next, fill_end}
 use Rattle.emit.specs.Emit.{becomes}
 use Rattle.emit.proofs.Writing.{whole_room, whole_written}
 use Rattle.emit.proofs.write_all.Goals as goal

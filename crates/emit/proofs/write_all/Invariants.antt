@@ -1,19 +1,14 @@
 -- `emit::write_all` meets its contract.
 use mathlib.Core.Path.{◌≡◌}
-use Prim.Native.Nat.{ℕ, ◌-◌}
-use native.Mathlib.Omega.{arith}
-use lib.ListN.{length, get_or, length-replicate}
-use borrow.Author.Rules.{rules}
+use Prim.Native.Nat.{◌-◌}
+use lib.ListN.{length, get_or}
 use Rattle.ir.specs.Limits.{max_wires}
 use Rattle.encoding.specs.Wires.{wire_bytes}
 use Rattle.records.specs.Access.{wires_of, no_wire}
-use Rattle.records.proofs.Runs.{wires_length}
 use Rattle.model.specs.Answer.{each}
-use Rattle.model.proofs.Each.{wires_size}
 use Rattle.state.specs.Planned.{shape_of}
-use Rattle.answer.proofs.Fill.{Filling, fill_start, fill_long, fill_room, fill_next, fill_end}
+use Rattle.answer.proofs.Fill.{Filling}
 use Rattle.emit.specs.Emit.{becomes}
-use Rattle.emit.proofs.Writing.{whole_room, whole_written}
 use Rattle.emit.proofs.write_all.Given as goal
 
 abbrev pub invariant-loop-i : goal.invariant-loop-i

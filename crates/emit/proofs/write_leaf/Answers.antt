@@ -1,5 +1,4 @@
 -- `emit::write_leaf` meets its contract.
-use borrow.Author.Rules.{rules}
 use Rattle.emit.proofs.write_leaf.Goals as goal
 
 pub returns : goal.returns

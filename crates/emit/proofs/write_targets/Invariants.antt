@@ -1,14 +1,9 @@
 -- `emit::write_targets` meets its contract.
-use mathlib.Core.Path.{refl, ap}
 use mathlib.Core.List.{List}
 use Prim.Native.Nat.{ℕ}
-use native.Mathlib.Omega.{arith}
-use borrow.Author.Rules.{rules}
-use lib.ListN.{length}
 use Rattle.records.specs.Access.{wires_of}
 use Rattle.emit.specs.Emit.{Counts}
-use Rattle.emit.proofs.Stack.{upward}
-use Rattle.emit.proofs.Fanning.{Going, targets_of, going_start, out_long, leaf_room, going_on, going_end, popped_long}
+use Rattle.emit.proofs.Fanning.{Going, targets_of}
 use Rattle.emit.proofs.write_targets.Given as goal
 
 abbrev pub invariant-loop-left : goal.invariant-loop-left

@@ -1,5 +1,4 @@
 -- `emit::write_wires` meets its contract.
-use borrow.Author.Rules.{rules}
 use Rattle.emit.proofs.SharedChains.{starts}
 use Rattle.emit.proofs.Writing.{prepared, prepared_shared}
 use Rattle.emit.proofs.write_wires.Goals as goal

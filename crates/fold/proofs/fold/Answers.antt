@@ -4,7 +4,6 @@ use lib.Seq.{length-take-le}
 use native.Mathlib.Omega.{arith}
 use Rattle.folding.specs.declared.Outcome.{Outcome}
 use Rattle.folding.specs.Entry.{numbers}
-use borrow.Author.Rules.{rules}
 use Rattle.fold.proofs.fold.Goals as goal
 
 pub slice_bounds-write_all-end : goal.slice_bounds-write_all-end

@@ -1,5 +1,4 @@
 -- `folding::fold_graph` meets its contract.
-use borrow.Author.Rules.{rules}
 use Rattle.state.proofs.Stores.{cleared}
 use Rattle.folding.proofs.Stages.{plain}
 use Rattle.folding.proofs.fold_graph.Goals as goal

@@ -1,6 +1,5 @@
 -- `folding::fold_input` meets its contract.
 use mathlib.Core.Path.{sym, ap, ap₂, ◌∙◌}
-use borrow.Author.Rules.{rules}
 use Rattle.graph.specs.Refusals.{report_of, refusal}
 use Rattle.model.specs.Outcome.{fold_bytes}
 use Rattle.propagation.proofs.Accepted.{refused_is}

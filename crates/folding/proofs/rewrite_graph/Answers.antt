@@ -2,7 +2,6 @@
 use mathlib.Core.Path.{ap, subst}
 use Prim.Native.Nat.{ℕ, ◌+◌, ◌*◌}
 use native.Mathlib.Omega.{arith}
-use borrow.Author.Rules.{rules}
 use Rattle.records.specs.Access.{wires_of}
 use Rattle.state.specs.Planned.{shape_of}
 use Rattle.rewrite.specs.Tallied.{Tallied}

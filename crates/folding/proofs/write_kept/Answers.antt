@@ -2,7 +2,6 @@
 use mathlib.Core.Path.{refl}
 use Prim.Native.Nat.{◌*◌, ◌≤◌}
 use native.Mathlib.Omega.{arith}
-use borrow.Author.Rules.{rules}
 use Rattle.records.proofs.Laid.{few_nodes}
 use Rattle.model.specs.Inputs.{size}
 use Rattle.propagation.proofs.Accepted.{nodes_are, bounded_at}

@@ -1,6 +1,5 @@
 -- `gate_cases::kind_of` meets its contract.
 use borrow.Author.Tests.{eq-eqb, ne_eqb}
-use borrow.Author.Rules.{rules}
 use Rattle.gate_cases.proofs.kind_of.Goals as goal
 
 pub returns-then-variant-eq-TEXT : goal.returns-then-variant-eq-TEXT

@@ -1,6 +1,5 @@
 -- `gate_cases::mezburiko_gate_case` meets its contract.
 use mathlib.Core.Path.{refl}
-use borrow.Author.Rules.{rules}
 use Rattle.gate_cases.specs.Cases.{zeros}
 use Rattle.gate_cases.proofs.mezburiko_gate_case.Goals as goal
 

@@ -8,7 +8,6 @@ use borrow.Author.Tests.{lt-ltb, le-leb, lt-leb}
 use mathlib.Core.Path.{ap, ◌∙◌}
 use native.Mathlib.Omega.{arith}
 use Prim.Native.Nat.{ℕ, ◌+◌}
-use borrow.Author.Rules.{rules}
 use Rattle.gate_cases.proofs.operand_at.Goals as goal
 
 pub returns-then-variant-eq0 : goal.returns-then-variant-eq0

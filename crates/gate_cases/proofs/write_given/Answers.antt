@@ -2,7 +2,6 @@
 use native.Mathlib.Omega.{arith}
 use mathlib.Core.Path.{◌≡◌, ap, ◌∙◌}
 use lib.ListN.{length}
-use borrow.Author.Rules.{rules}
 use Rattle.ir.specs.Kinds.{role_of}
 use Rattle.encoding.specs.Values.{value_bytes}
 use Rattle.encoding.specs.Words.{held_by}

@@ -1,7 +1,6 @@
 -- `gate_replay::differs` meets its contract.
 use native.Mathlib.Omega.{arith}
 use mathlib.Core.Path.{sym, ◌∙◌}
-use borrow.Author.Rules.{rules}
 use Rattle.gate_replay.proofs.differs.Goals as goal
 
 pub returns-then-same : goal.returns-then-same

@@ -1,5 +1,4 @@
 -- `inputs::resolve_input` meets its contract.
-use Rattle.model.specs.Inputs.{carried}
 use Rattle.inputs.proofs.Chains.{port_code, port_says, source_node_lem, resolve_none, resolve_one, resolve_many}
 use Rattle.inputs.proofs.resolve_input.Goals as goal
 

@@ -1,15 +1,10 @@
 -- `rewrite::has_action` meets its contract.
 -- one of the first nodes has the action, or the next has
-use Prim.Native.Nat.{ℕ, ◌+◌, ◌≤◌, ◌<◌, ◌-◌}
-use native.Mathlib.Omega.{arith}
-use mathlib.Core.Bool.{Bool, true, false, false≢true, ◌||◌}
-use mathlib.Core.List.{List}
-use mathlib.Core.Path.{◌≡◌, refl}
-use lib.Dec.{eqb}
+use Prim.Native.Nat.{ℕ, ◌≤◌, ◌<◌, ◌-◌}
+use mathlib.Core.Bool.{true, false}
+use mathlib.Core.Path.{◌≡◌}
 use lib.ListN.{get_or}
-use borrow.Author.Tests.{eqb-true}
 use Rattle.rewrite.specs.Rewritable.{HasAction}
-use Rattle.rewrite.proofs.Shapes.{none_more}
 use Rattle.rewrite.proofs.has_action.Given as goal
 
 abbrev pub invariant-loop-node : goal.invariant-loop-node

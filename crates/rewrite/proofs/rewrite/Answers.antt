@@ -1,5 +1,4 @@
 -- `rewrite::rewrite` meets its contract.
-use borrow.Author.Rules.{rules}
 use Rattle.rewrite.proofs.Origins.{traced}
 use Rattle.rewrite.proofs.Linking.{within}
 use Rattle.rewrite.proofs.rewrite.Goals as goal

@@ -2,7 +2,6 @@
 use Prim.Native.Nat.{ℕ, ◌+◌, ◌*◌}
 use native.Mathlib.Omega.{arith}
 use mathlib.Core.Path.{ap}
-use borrow.Author.Rules.{rules}
 use Rattle.propagation.proofs.Accepted.{bounded_at}
 use Rattle.folding.proofs.Stages.{shaped_at, small_place, stuck_at, rewrote_at}
 use Rattle.rewritten.proofs.Stages.{refuse_endless}

@@ -2,7 +2,6 @@
 use mathlib.Core.Path.{◌≡◌, ◌∙◌, sym, ap}
 use native.Mathlib.Omega.{arith}
 use Rattle.semantics.specs.Eval.{eval_of}
-use borrow.Author.Rules.{rules}
 use Rattle.semantics.proofs.bitwise_logic.Goals as goal
 
 pub returns-in-33 : goal.returns-in-33

@@ -8,7 +8,6 @@ use Rattle.value.specs.declared.Operand.{Operand}
 use Rattle.value.specs.declared.OptionValue.{OptionValue}
 use Rattle.comparison.specs.Comparison.{equal_of, not_equal_of, less_of, less_or_equal_of, greater_of, greater_or_equal_of}
 use Rattle.semantics.specs.Eval.{eval_of}
-use borrow.Author.Rules.{rules}
 use Rattle.semantics.proofs.compare.Goals as goal
 
 module _ (x y z : Operand) where

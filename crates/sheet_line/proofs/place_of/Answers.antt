@@ -1,7 +1,6 @@
 -- `sheet_line::place_of` meets its contract.
 use mathlib.Core.Path.{refl}
 use borrow.Author.Tests.{lt-ltb, le-ltb}
-use borrow.Author.Rules.{rules}
 use Rattle.sheet_line.proofs.place_of.Goals as goal
 
 pub returns-then-n-unit : goal.returns-then-n-unit

@@ -1,6 +1,5 @@
 -- `sheet_line::write_blank` meets its contract.
 use Rattle.sheet_line.proofs.Pieces.{blank_all}
-use borrow.Author.Rules.{rules}
 use Rattle.sheet_line.proofs.write_blank.Goals as goal
 
 pub returns : goal.returns

@@ -2,9 +2,8 @@
 use Rattle.sheet_line.proofs.Pieces.{letter_alone, letter_number, as_fate}
 use Rattle.sheet_line.specs.declared.Fate.{Fate}
 use Prim.Native.Nat.{ℕ}
-use mathlib.Core.List.{List, [], ◌∷◌}
+use mathlib.Core.List.{[], ◌∷◌}
 use mathlib.Core.Path.{refl, sym, ap}
-use borrow.Author.Rules.{rules}
 use Rattle.sheet_line.proofs.write_fate.Goals as goal
 
 pub returns-in-Kept : goal.returns-in-Kept

@@ -1,6 +1,5 @@
 -- `sheet_line::write_head` meets its contract.
 use Rattle.sheet_line.proofs.Pieces.{head_all}
-use borrow.Author.Rules.{rules}
 use Rattle.sheet_line.proofs.write_head.Goals as goal
 
 pub returns : goal.returns

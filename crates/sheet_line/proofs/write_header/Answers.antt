@@ -3,7 +3,6 @@ use native.Mathlib.Omega.{arith}
 use Rattle.sheet_line.specs.Characters.{header_text}
 use Rattle.sheet_line.proofs.Pieces.{over_blank}
 use Rattle.sheet_line.proofs.Widths.{header_wide}
-use borrow.Author.Rules.{rules}
 use Rattle.sheet_line.proofs.write_header.Goals as goal
 
 pub returns : goal.returns

@@ -1,6 +1,5 @@
 -- `sheet_line::write_hex` meets its contract.
 use Rattle.sheet_line.proofs.Pieces.{half_room, hex_all}
-use borrow.Author.Rules.{rules}
 use Rattle.sheet_line.proofs.write_hex.Goals as goal
 
 pub write_u64-requires : goal.write_u64-requires

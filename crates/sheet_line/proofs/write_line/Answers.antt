@@ -5,7 +5,6 @@ use native.Mathlib.Omega.{arith}
 use Rattle.sheet_line.proofs.Pieces.{after, line_all}
 use Rattle.sheet_line.proofs.ReadBack.{reads_back}
 use Rattle.sheet_line.proofs.Widths.{head_length, line_wide, ended_length}
-use borrow.Author.Rules.{rules}
 use Rattle.sheet_line.proofs.write_line.Goals as goal
 
 pub write_head-past-requires : goal.write_head-past-requires

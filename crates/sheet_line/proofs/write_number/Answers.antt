@@ -1,6 +1,5 @@
 -- `sheet_line::write_number` meets its contract.
 use Rattle.sheet_line.proofs.Pieces.{number_all}
-use borrow.Author.Rules.{rules}
 use Rattle.sheet_line.proofs.write_number.Goals as goal
 
 pub returns : goal.returns

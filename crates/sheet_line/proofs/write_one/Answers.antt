@@ -1,6 +1,5 @@
 -- `sheet_line::write_one` meets its contract.
 use Rattle.sheet_line.proofs.Pieces.{one_all}
-use borrow.Author.Rules.{rules}
 use Rattle.sheet_line.proofs.write_one.Goals as goal
 
 pub returns : goal.returns

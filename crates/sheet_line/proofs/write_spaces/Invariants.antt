@@ -1,10 +1,8 @@
 -- `sheet_line::write_spaces` meets its contract.
 use Prim.Native.Nat.{◌-◌}
 use mathlib.Core.List.{[], ◌∷◌}
-use borrow.Author.Rules.{rules}
-use Rattle.answer.proofs.Fill.{Filling, fill_start, fill_long, fill_room, fill_next}
+use Rattle.answer.proofs.Fill.{Filling}
 use Rattle.sheet_line.specs.Characters.{space}
-use Rattle.sheet_line.proofs.Pieces.{spaces_room, spaces_end}
 use Rattle.sheet_line.proofs.write_spaces.Given as goal
 
 abbrev pub invariant-loop-i : goal.invariant-loop-i

@@ -1,9 +1,5 @@
 -- `sheet_line::write_text` meets its contract.
-use Prim.Native.Nat.{◌-◌}
-use mathlib.Core.List.{[], ◌∷◌}
-use lib.ListN.{length, get_or}
-use borrow.Author.Rules.{rules}
-use Rattle.answer.proofs.Fill.{Filling, fill_start, fill_long, fill_room, fill_next}
+use Rattle.answer.proofs.Fill.{fill_start, fill_long, fill_room, fill_next}
 use Rattle.sheet_line.proofs.Pieces.{copy_room, copy_end}
 use Rattle.sheet_line.proofs.write_text.Goals as goal
 

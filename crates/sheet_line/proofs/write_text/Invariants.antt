@@ -2,9 +2,7 @@
 use Prim.Native.Nat.{◌-◌}
 use mathlib.Core.List.{[], ◌∷◌}
 use lib.ListN.{length, get_or}
-use borrow.Author.Rules.{rules}
-use Rattle.answer.proofs.Fill.{Filling, fill_start, fill_long, fill_room, fill_next}
-use Rattle.sheet_line.proofs.Pieces.{copy_room, copy_end}
+use Rattle.answer.proofs.Fill.{Filling}
 use Rattle.sheet_line.proofs.write_text.Given as goal
 
 abbrev pub invariant-loop-i : goal.invariant-loop-i

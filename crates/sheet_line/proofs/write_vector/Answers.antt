@@ -2,7 +2,6 @@
 use native.Mathlib.Omega.{arith}
 use Rattle.sheet_line.proofs.Widths.{number_length}
 use Rattle.sheet_line.proofs.Pieces.{after, vector_all}
-use borrow.Author.Rules.{rules}
 use Rattle.sheet_line.proofs.write_vector.Goals as goal
 
 pub write_number-third-requires : goal.write_number-third-requires

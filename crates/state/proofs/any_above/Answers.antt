@@ -1,7 +1,7 @@
 -- `state::any_above` meets its contract.
 -- none of the first nodes is above the bound, nor is the next
 -- one of the first nodes is above it, or the next is
-use Prim.Native.Nat.{ℕ, ◌+◌, ◌-◌, ◌≤◌, ◌<◌}
+use Prim.Native.Nat.{ℕ, ◌+◌, ◌≤◌, ◌<◌}
 use native.Mathlib.Omega.{arith}
 use native.Mathlib.Decide.{ℕ_discrete}
 use mathlib.Core.Path.{◌≡◌, refl}

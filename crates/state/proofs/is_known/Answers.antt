@@ -1,5 +1,4 @@
 -- `state::is_known` meets its contract.
-use borrow.Author.Rules.{rules}
 use Rattle.state.proofs.Values.{known_test}
 use Rattle.state.proofs.is_known.Goals as goal
 

@@ -2,7 +2,6 @@
 use mathlib.Core.Option.{some}
 use mathlib.Core.Path.{◌∙◌, ap}
 use borrow.Author.Tests.{eq-eqb, ne_eqb}
-use borrow.Author.Rules.{rules}
 use Rattle.state.specs.Held.{held, known_of}
 use Rattle.state.proofs.load.Goals as goal
 

@@ -1,5 +1,4 @@
 -- `state::plan` meets its contract.
-use borrow.Author.Rules.{rules}
 use Rattle.state.proofs.Stores.{plan_free, plan_kept}
 use Rattle.state.proofs.plan.Goals as goal
 

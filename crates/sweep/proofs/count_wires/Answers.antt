@@ -1,9 +1,7 @@
 -- `sweep::count_wires` meets its contract.
-use Prim.Native.Nat.{◌-◌}
 use native.Mathlib.Omega.{arith}
 use Rattle.records.proofs.Runs.{wires_length}
-use Rattle.records.specs.Access.{wires_of}
-use Rattle.sweep.proofs.Releases.{Counting, counting_start, counting_few, counting_more, counting_ends}
+use Rattle.sweep.proofs.Releases.{counting_start, counting_few, counting_more, counting_ends}
 use Rattle.sweep.proofs.count_wires.Goals as goal
 
 pub loop-i-init : goal.loop-i-init

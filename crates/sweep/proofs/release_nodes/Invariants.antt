@@ -1,7 +1,6 @@
 -- `sweep::release_nodes` meets its contract.
 use Prim.Native.Nat.{◌-◌}
-use native.Mathlib.Omega.{arith}
-use Rattle.sweep.proofs.Releases.{Releasing, releasing_start, releasing_some, releasing_more, releasing_ends}
+use Rattle.sweep.proofs.Releases.{Releasing}
 use Rattle.sweep.proofs.release_nodes.Given as goal
 
 abbrev pub invariant-loop-n : goal.invariant-loop-n

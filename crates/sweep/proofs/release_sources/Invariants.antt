@@ -1,10 +1,8 @@
 -- `sweep::release_sources` meets its contract.
-use native.Mathlib.Omega.{arith}
-use borrow.Author.Rules.{rules}
 use Rattle.ir.specs.Limits.{max_wires}
 use Rattle.records.specs.Access.{wires_of}
 use Rattle.wire_index.proofs.Chains.{steps}
-use Rattle.sweep.proofs.Releases.{Feeding, feeding_start, feeding_within, feeding_less, feeding_some, feeding_more, feeding_ends}
+use Rattle.sweep.proofs.Releases.{Feeding}
 use Rattle.sweep.proofs.release_sources.Given as goal
 
 abbrev pub invariant-loop-code : goal.invariant-loop-code

@@ -1,11 +1,8 @@
 -- `sweep::remove_nodes` meets its contract.
 use Prim.Native.Nat.{◌-◌}
-use native.Mathlib.Omega.{arith}
-use borrow.Author.Rules.{rules}
 use Rattle.ir.specs.Limits.{max_nodes}
 use Rattle.records.specs.Access.{wires_of}
 use Rattle.sweep.specs.Queue.{Sweeping}
-use Rattle.sweep.proofs.Sweeps.{sweep_place, sweep_node, sweep_enough, sweep_more, sweep_ends}
 use Rattle.sweep.proofs.remove_nodes.Given as goal
 
 abbrev pub invariant-loop-head : goal.invariant-loop-head

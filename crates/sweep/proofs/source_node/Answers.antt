@@ -1,6 +1,5 @@
 -- `sweep::source_node` meets its contract.
 use mathlib.Core.Path.{ap}
-use borrow.Author.Rules.{rules}
 use Rattle.ir.specs.declared.Wire.{Wire}
 use Rattle.sweep.proofs.source_node.Goals as goal
 

@@ -1,6 +1,5 @@
 -- `swept::answer_swept` meets its contract.
 use Prim.Native.Nat.{◌*◌}
-use borrow.Author.Rules.{rules}
 use Rattle.swept.proofs.Stages.{emitted_front}
 use Rattle.swept.proofs.answer_swept.Goals as goal
 

@@ -1,7 +1,6 @@
 -- `swept::fold_graph` meets its contract.
 use Prim.Native.Nat.{ℕ, ◌*◌}
 use lib.ListN.{length-replicate}
-use borrow.Author.Rules.{rules}
 use Rattle.ir.specs.Limits.{max_wires}
 use Rattle.state.proofs.Stores.{cleared}
 use Rattle.rewritten.proofs.Stages.{settled_plain}

@@ -1,6 +1,5 @@
 -- `swept::fold_input` meets its contract.
 use mathlib.Core.Path.{sym, ap, ap₂, ◌∙◌}
-use borrow.Author.Rules.{rules}
 use Rattle.graph.specs.Refusals.{report_of, refusal}
 use Rattle.propagation.proofs.Accepted.{refused_is}
 use Rattle.folding.proofs.Stages.{refuse_decode}

@@ -1,6 +1,5 @@
 -- `swept::rewrite_graph` meets its contract.
 use mathlib.Core.Path.{refl}
-use borrow.Author.Rules.{rules}
 use Rattle.propagation.proofs.Accepted.{accepted_graph}
 use Rattle.rewritten.proofs.Stages.{refused_as}
 use Rattle.rewritten.proofs.Entries.{refuse_wires}

@@ -1,11 +1,7 @@
 -- `table::index_rows` meets its contract.
-use Prim.Native.Nat.{◌/◌, ◌-◌}
 use native.Mathlib.Omega.{arith}
-use mathlib.Core.Path.{◌≡◌, refl}
-use lib.ListN.{length, take}
-use Rattle.records.specs.Access.{rows_of}
+use mathlib.Core.Path.{refl}
 use Rattle.records.proofs.Runs.{rows_length}
-use Rattle.table.specs.Table.{Cells}
 use Rattle.table.proofs.Search.{none_marked, further, end}
 use Rattle.table.proofs.index_rows.Goals as goal
 

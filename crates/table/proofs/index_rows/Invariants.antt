@@ -1,12 +1,9 @@
 -- `table::index_rows` meets its contract.
 use Prim.Native.Nat.{◌/◌, ◌-◌}
-use native.Mathlib.Omega.{arith}
-use mathlib.Core.Path.{◌≡◌, refl}
+use mathlib.Core.Path.{◌≡◌}
 use lib.ListN.{length, take}
 use Rattle.records.specs.Access.{rows_of}
-use Rattle.records.proofs.Runs.{rows_length}
 use Rattle.table.specs.Table.{Cells}
-use Rattle.table.proofs.Search.{none_marked, further, end}
 use Rattle.table.proofs.index_rows.Given as goal
 
 abbrev pub invariant-loop-k : goal.invariant-loop-k

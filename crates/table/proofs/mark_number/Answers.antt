@@ -3,7 +3,6 @@ use Prim.Native.Nat.{◌%◌}
 use native.Mathlib.Omega.{arith}
 use Rattle.table.specs.Table.{word_bits}
 use Rattle.table.proofs.Bits.{shifted_one, marks}
-use borrow.Author.Rules.{rules}
 use Rattle.table.proofs.mark_number.Goals as goal
 
 pub returns : goal.returns

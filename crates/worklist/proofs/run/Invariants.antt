@@ -1,13 +1,10 @@
 -- `worklist::run` meets its contract. The measure: a pop for each node and each wire is enough.
-use mathlib.Core.Path.{refl}
 use Prim.Native.Nat.{◌+◌, ◌-◌}
-use native.Mathlib.Omega.{arith}
 use lib.ListN.{length}
-use borrow.Author.Rules.{rules}
 use Rattle.graph.specs.Decode.{graph_of}
 use Rattle.model.specs.Inputs.{size}
 use Rattle.model.specs.Own.{own_of}
-use Rattle.worklist.proofs.Running.{At, nodes_few, at_start, at_most, at_end, at_less, at_node, at_unknown, at_rest, at_next}
+use Rattle.worklist.proofs.Running.{At}
 use Rattle.worklist.proofs.run.Given as goal
 
 abbrev pub invariant-loop-queue : goal.invariant-loop-queue

@@ -1,9 +1,7 @@
 -- `emit::kept::copy_wires` meets its contract.
-use Prim.Native.Nat.{◌-◌}
 use native.Mathlib.Omega.{arith}
-use lib.ListN.{length}
 use borrow.Author.Rules.{rules}
-use Rattle.emit.proofs.Copying.{Copying, copy_start, copy_long, copy_next, copy_end}
+use Rattle.emit.proofs.Copying.{copy_start, copy_long, copy_next, copy_end}
 use Rattle.emit.proofs.kept.copy_wires.Goals as goal
 
 pub loop-i-init : goal.loop-i-init

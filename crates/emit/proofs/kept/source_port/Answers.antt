@@ -1,5 +1,4 @@
 -- `emit::kept::source_port` meets its contract.
-use borrow.Author.Rules.{rules}
 use borrow.Author.Tests.{ne_eqb}
 use mathlib.Core.Path.{refl}
 use Rattle.emit.proofs.kept.source_port.Goals as goal

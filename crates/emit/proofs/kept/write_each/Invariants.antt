@@ -1,15 +1,11 @@
 -- `emit::kept::write_each` meets its contract.
 use Prim.Native.Nat.{◌-◌}
-use native.Mathlib.Omega.{arith}
 use lib.ListN.{get_or}
-use borrow.Author.Rules.{rules}
 use Rattle.encoding.specs.Wires.{wire_bytes}
 use Rattle.records.specs.Access.{wires_of, no_wire}
-use Rattle.records.proofs.Runs.{wires_length}
 use Rattle.model.specs.Answer.{each}
 use Rattle.rewrite.specs.Tallied.{kept_wire}
-use Rattle.answer.proofs.Fill.{Filling, fill_start, fill_long, fill_room, fill_next, fill_end}
-use Rattle.emit.proofs.Copying.{kept_room, kept_each}
+use Rattle.answer.proofs.Fill.{Filling}
 use Rattle.emit.proofs.kept.write_each.Given as goal
 
 abbrev pub invariant-loop-i : goal.invariant-loop-i

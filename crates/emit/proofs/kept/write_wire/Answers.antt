@@ -2,7 +2,6 @@
 use mathlib.Core.Path.{ap}
 use native.Mathlib.Omega.{arith}
 use lib.ListN.{length, get_or}
-use borrow.Author.Rules.{rules}
 use Rattle.ir.specs.declared.Wire.{Wire}
 use Rattle.records.specs.Access.{wires_of, no_wire}
 use Rattle.model.proofs.Each.{wires_size}

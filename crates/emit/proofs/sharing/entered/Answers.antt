@@ -1,7 +1,6 @@
 -- `emit::sharing::entered` meets its contract.
 use mathlib.Core.Path.{refl, sym, ap}
 use native.Mathlib.Omega.{arith}
-use borrow.Author.Rules.{rules}
 use Rattle.ir.specs.declared.Wire.{Wire}
 use Rattle.emit.proofs.sharing.entered.Goals as goal
 

@@ -1,6 +1,5 @@
 -- `emit::sharing::share` meets its contract.
 use native.Mathlib.Omega.{arith}
-use borrow.Author.Rules.{rules}
 use Rattle.emit.proofs.SharedChains.{shared_same, shared_one}
 use Rattle.emit.proofs.sharing.share.Goals as goal
 

@@ -1,10 +1,7 @@
 -- `emit::sharing::share_chains` meets its contract.
 use Prim.Native.Nat.{◌≤◌}
-use native.Mathlib.Omega.{arith}
-use mathlib.Core.Path.{refl}
 use Rattle.records.specs.Access.{wires_of}
 use Rattle.emit.specs.Emit.{Shared, Branches}
-use Rattle.emit.proofs.SharedChains.{shared_same, shared_more}
 use Rattle.emit.proofs.sharing.share_chains.Given as goal
 
 abbrev pub invariant-loop-b : goal.invariant-loop-b

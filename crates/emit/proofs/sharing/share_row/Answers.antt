@@ -1,8 +1,5 @@
 -- `emit::sharing::share_row` meets its contract.
 use native.Mathlib.Omega.{arith}
-use borrow.Author.Rules.{rules}
-use Rattle.records.specs.Access.{wires_of}
-use Rattle.emit.specs.Emit.{Shared, Branches}
 use Rattle.emit.proofs.SharedChains.{shared_same, shared_more, unstacked}
 use Rattle.emit.proofs.sharing.share_row.Goals as goal
 

@@ -1,11 +1,10 @@
 -- `emit::sharing::stack_row` meets its contract.
 -- what the loop's test says
-use Prim.Native.Nat.{◌-◌, ◌≤◌, ◌<◌}
+use Prim.Native.Nat.{◌<◌}
 use native.Mathlib.Omega.{arith}
 use lib.Dec.{ltb}
 use borrow.Author.Tests.{ltb-true}
 use Rattle.graph.proofs.Roles.{and_left, and_right}
-use Rattle.emit.specs.Emit.{Branches}
 use Rattle.emit.proofs.SharedChains.{stacked}
 use Rattle.emit.proofs.sharing.stack_row.Goals as goal
 use Rattle.emit.proofs.sharing.stack_row.Goals.{In-loop-branch}

@@ -1,12 +1,7 @@
 -- `emit::sharing::stack_row` meets its contract.
 -- what the loop's test says
-use Prim.Native.Nat.{◌-◌, ◌≤◌, ◌<◌}
-use native.Mathlib.Omega.{arith}
-use lib.Dec.{ltb}
-use borrow.Author.Tests.{ltb-true}
-use Rattle.graph.proofs.Roles.{and_left, and_right}
+use Prim.Native.Nat.{◌-◌, ◌≤◌}
 use Rattle.emit.specs.Emit.{Branches}
-use Rattle.emit.proofs.SharedChains.{stacked}
 use Rattle.emit.proofs.sharing.stack_row.Given as goal
 
 abbrev pub invariant-loop-branch : goal.invariant-loop-branch

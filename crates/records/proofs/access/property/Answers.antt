@@ -4,7 +4,6 @@ use native.Mathlib.Omega.{arith}
 use mathlib.Core.List.{List}
 use mathlib.Core.Path.{◌≡◌, ◌∙◌, ap}
 use lib.ListN.{get_or}
-use borrow.Author.Rules.{rules}
 use Rattle.graph.specs.Layout.{size_by}
 use Rattle.graph.specs.Index.{slot, entry_value, IsProperty}
 use Rattle.encoding.specs.Numbers.{byte}

@@ -1,6 +1,5 @@
 -- `records::access::wires_offset` meets its contract.
 use native.Mathlib.Omega.{arith}
-use borrow.Author.Rules.{rules}
 use Rattle.records.proofs.Laid.{inside}
 use Rattle.records.proofs.access.wires_offset.Goals as goal
 

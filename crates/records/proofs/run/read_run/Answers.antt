@@ -1,10 +1,7 @@
 -- `records::run::read_run` meets its contract.
-use Prim.Native.Nat.{◌-◌, ◌≤◌}
 use native.Mathlib.Omega.{arith}
 use mathlib.Core.Path.{sym, ◌∙◌}
 use mathlib.Core.Bool.{false≢true}
-use lib.ListN.{length}
-use Rattle.records.specs.Scanned.{Scanned}
 use Rattle.records.proofs.Scanned.{role_here, whole_here, size_here, sound_here, room_here, new_here, begun_here, few_here, few_texts_here, one_more}
 use Rattle.records.proofs.run.read_run.Goals as goal
 

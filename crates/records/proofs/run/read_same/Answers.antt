@@ -1,7 +1,6 @@
 -- `records::run::read_same` meets its contract.
 use native.Mathlib.Omega.{arith}
 use mathlib.Core.Path.{sym, subst, ◌∙◌}
-use borrow.Author.Rules.{rules}
 use Rattle.records.specs.Scanned.{InRuns}
 use Rattle.records.proofs.run.read_same.Goals as goal
 

@@ -1,5 +1,4 @@
 -- `rewrite::chains::is_taken` meets its contract.
-use borrow.Author.Rules.{rules}
 use Rattle.rewrite.proofs.chains.is_taken.Goals as goal
 
 pub returns : goal.returns

@@ -1,11 +1,8 @@
 -- `rewrite::chains::link_all_taken` meets its contract.
-use Prim.Native.Nat.{◌≤◌, ◌-◌, ◌+◌}
+use Prim.Native.Nat.{◌-◌, ◌+◌}
 use native.Mathlib.Omega.{arith}
 use mathlib.Core.Path.{◌≡◌}
-use lib.ListN.{length}
-use Rattle.records.specs.Access.{wires_of}
 use Rattle.records.proofs.Runs.{wires_length}
-use Rattle.rewrite.specs.Linked.{takes, Linked}
 use Rattle.rewrite.proofs.chains.link_all_taken.Goals as goal
 
 pub loop-i-init : goal.loop-i-init

@@ -1,10 +1,7 @@
 -- `rewrite::chains::link_all_taken` meets its contract.
-use Prim.Native.Nat.{◌≤◌, ◌-◌, ◌+◌}
-use native.Mathlib.Omega.{arith}
-use mathlib.Core.Path.{◌≡◌}
+use Prim.Native.Nat.{◌≤◌}
 use lib.ListN.{length}
 use Rattle.records.specs.Access.{wires_of}
-use Rattle.records.proofs.Runs.{wires_length}
 use Rattle.rewrite.specs.Linked.{takes, Linked}
 use Rattle.rewrite.proofs.chains.link_all_taken.Given as goal
 

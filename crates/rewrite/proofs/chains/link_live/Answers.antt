@@ -1,7 +1,6 @@
 -- `rewrite::chains::link_live` meets its contract.
 use native.Mathlib.Omega.{arith}
 use mathlib.Core.Path.{sym, ◌∙◌}
-use borrow.Author.Rules.{rules}
 use Rattle.rewrite.proofs.Linking.{live_on, live_dead, live_not}
 use Rattle.rewrite.proofs.chains.link_live.Goals as goal
 

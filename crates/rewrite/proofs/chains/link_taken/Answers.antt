@@ -1,7 +1,6 @@
 -- `rewrite::chains::link_taken` meets its contract.
 use native.Mathlib.Omega.{arith}
 use mathlib.Core.Path.{sym, ◌∙◌}
-use borrow.Author.Rules.{rules}
 use Rattle.rewrite.proofs.Linking.{taken_on, taken_not}
 use Rattle.rewrite.proofs.chains.link_taken.Goals as goal
 

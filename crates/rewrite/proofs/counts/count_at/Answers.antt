@@ -1,6 +1,5 @@
 -- `rewrite::counts::count_at` meets its contract.
 use borrow.Author.Tests.{eq-eqb, ne_eqb}
-use borrow.Author.Rules.{rules}
 use Rattle.rewrite.specs.Counts.{count_in}
 use Rattle.rewrite.proofs.counts.count_at.Goals as goal
 

@@ -2,7 +2,6 @@
 use Prim.Native.Nat.{ℕ}
 use mathlib.Core.Path.{ap, ◌∙◌}
 use lib.ListN.{length, length-replicate}
-use borrow.Author.Rules.{rules}
 use Rattle.ir.specs.Limits.{max_nodes}
 use Rattle.rewrite.specs.Search.{unseen}
 use Rattle.rewrite.proofs.Counting.{counts_none}

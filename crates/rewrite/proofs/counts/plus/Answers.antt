@@ -1,6 +1,5 @@
 -- `rewrite::counts::plus` meets its contract.
 use native.Mathlib.Omega.{arith}
-use borrow.Author.Rules.{rules}
 use Rattle.model.specs.TargetCounts.{cap}
 use Rattle.rewrite.proofs.counts.plus.Goals as goal
 

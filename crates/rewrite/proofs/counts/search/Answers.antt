@@ -1,10 +1,7 @@
 -- `rewrite::counts::search` meets its contract.
-use Prim.Native.Nat.{◌+◌, ◌*◌}
 use native.Mathlib.Omega.{arith}
 use mathlib.Core.Path.{◌≡◌}
-use Rattle.records.specs.Access.{wires_of}
-use Rattle.rewrite.specs.Search.{unseen_in}
-use Rattle.rewrite.proofs.Visits.{Running, run_start, run_on, visit_inside, visit_enters, visited}
+use Rattle.rewrite.proofs.Visits.{run_start, run_on, visit_inside, visit_enters, visited}
 use Rattle.rewrite.proofs.counts.search.Goals as goal
 
 pub enter-requires : goal.enter-requires

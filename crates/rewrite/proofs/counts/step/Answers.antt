@@ -2,7 +2,6 @@
 use Prim.Native.Nat.{◌<◌}
 use native.Mathlib.Omega.{arith}
 use mathlib.Core.Path.{refl}
-use borrow.Author.Rules.{rules}
 use Rattle.ir.specs.Limits.{max_nodes}
 use Rattle.rewrite.proofs.Steps.{top_inside, top_code, top_sum, step_finishes, step_clears, step_enters, step_room}
 use Rattle.rewrite.proofs.Searching.{few}

@@ -1,6 +1,5 @@
 -- `rewrite::counts::visit` meets its contract.
 use native.Mathlib.Omega.{arith}
-use borrow.Author.Rules.{rules}
 use Rattle.rewrite.proofs.Visits.{visit_none}
 use Rattle.rewrite.proofs.counts.visit.Goals as goal
 

@@ -1,8 +1,6 @@
 -- `rewrite::counts::visit_all` meets its contract.
-use Prim.Native.Nat.{◌-◌}
 use native.Mathlib.Omega.{arith}
-use Rattle.records.specs.Access.{wires_of}
-use Rattle.rewrite.proofs.Visits.{Visiting, visiting_start, visiting_on}
+use Rattle.rewrite.proofs.Visits.{visiting_start, visiting_on}
 use Rattle.rewrite.proofs.counts.visit_all.Goals as goal
 
 pub loop-node-init : goal.loop-node-init

@@ -1,8 +1,7 @@
 -- `rewrite::counts::visit_all` meets its contract.
 use Prim.Native.Nat.{◌-◌}
-use native.Mathlib.Omega.{arith}
 use Rattle.records.specs.Access.{wires_of}
-use Rattle.rewrite.proofs.Visits.{Visiting, visiting_start, visiting_on}
+use Rattle.rewrite.proofs.Visits.{Visiting}
 use Rattle.rewrite.proofs.counts.visit_all.Given as goal
 
 abbrev pub invariant-loop-node : goal.invariant-loop-node

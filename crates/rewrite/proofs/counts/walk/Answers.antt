@@ -1,9 +1,6 @@
 -- `rewrite::counts::walk` meets its contract.
 use native.Mathlib.Omega.{arith}
-use lib.ListN.{length}
-use borrow.Author.Rules.{rules}
-use Rattle.records.specs.Access.{wires_of}
-use Rattle.rewrite.proofs.Walking.{Walking, walk_start, walk_next, walk_stop, walk_end, ahead, ahead_less}
+use Rattle.rewrite.proofs.Walking.{walk_start, walk_next, walk_stop, walk_end, ahead_less}
 use Rattle.rewrite.proofs.counts.walk.Goals as goal
 
 pub loop-at-init : goal.loop-at-init

@@ -1,9 +1,7 @@
 -- `rewrite::counts::walk` meets its contract.
-use native.Mathlib.Omega.{arith}
 use lib.ListN.{length}
-use borrow.Author.Rules.{rules}
 use Rattle.records.specs.Access.{wires_of}
-use Rattle.rewrite.proofs.Walking.{Walking, walk_start, walk_next, walk_stop, walk_end, ahead, ahead_less}
+use Rattle.rewrite.proofs.Walking.{Walking, ahead}
 use Rattle.rewrite.proofs.counts.walk.Given as goal
 
 abbrev pub invariant-loop-at : goal.invariant-loop-at

@@ -1,5 +1,4 @@
 -- `rewrite::counts::wire_count` meets its contract.
-use borrow.Author.Rules.{rules}
 use Rattle.rewrite.proofs.counts.wire_count.Goals as goal
 
 pub count_at-requires : goal.count_at-requires

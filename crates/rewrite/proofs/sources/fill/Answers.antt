@@ -1,10 +1,6 @@
 -- `rewrite::sources::fill` meets its contract.
-use Prim.Native.Nat.{◌-◌, ◌<◌}
 use native.Mathlib.Omega.{arith}
 use mathlib.Core.Path.{refl}
-use Rattle.records.specs.Access.{wires_of}
-use Rattle.rewrite.specs.Jumps.{Jumped}
-use Rattle.rewrite.specs.Sources.{Traced}
 use Rattle.rewrite.proofs.Jumping.{jump_start, traced_start, sources_right, sources_none}
 use Rattle.rewrite.proofs.sources.fill.Goals as goal
 

@@ -1,7 +1,6 @@
 -- `rewrite::sources::jump` meets its contract.
 use native.Mathlib.Omega.{arith}
 use mathlib.Core.Path.{refl, sym}
-use borrow.Author.Rules.{rules}
 use Rattle.rewrite.proofs.Jumping.{jump_other, jump_ends, jump_on, jumped_not, jumped_on}
 use Rattle.rewrite.proofs.sources.jump.Goals as goal
 use Rattle.rewrite.proofs.sources.jump.Goals.{After-wire-s}

@@ -1,8 +1,6 @@
 -- `rewrite::sources::jump_all` meets its contract.
-use Prim.Native.Nat.{◌-◌}
 use native.Mathlib.Omega.{arith}
-use Rattle.records.specs.Access.{wires_of}
-use Rattle.rewrite.proofs.Jumping.{Jumping, jumping_start, jumping_next, jumping_end, jumping_still}
+use Rattle.rewrite.proofs.Jumping.{jumping_start, jumping_next, jumping_end, jumping_still}
 use Rattle.rewrite.proofs.sources.jump_all.Goals as goal
 
 pub loop-i-init : goal.loop-i-init

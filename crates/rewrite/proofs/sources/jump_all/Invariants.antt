@@ -1,8 +1,7 @@
 -- `rewrite::sources::jump_all` meets its contract.
 use Prim.Native.Nat.{◌-◌}
-use native.Mathlib.Omega.{arith}
 use Rattle.records.specs.Access.{wires_of}
-use Rattle.rewrite.proofs.Jumping.{Jumping, jumping_start, jumping_next, jumping_end, jumping_still}
+use Rattle.rewrite.proofs.Jumping.{Jumping}
 use Rattle.rewrite.proofs.sources.jump_all.Given as goal
 
 abbrev pub invariant-loop-i : goal.invariant-loop-i

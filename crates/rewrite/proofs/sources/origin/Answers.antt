@@ -1,6 +1,5 @@
 -- `rewrite::sources::origin` meets its contract.
 use mathlib.Core.Path.{◌∙◌}
-use borrow.Author.Rules.{rules}
 use Rattle.rewrite.proofs.Origins.{origin_here, origin_passed}
 use Rattle.rewrite.proofs.sources.origin.Goals as goal
 

@@ -1,6 +1,5 @@
 -- `rewrite::sources::settled` meets its contract.
 use borrow.Author.Tests.{eq-eqb, ne_eqb}
-use borrow.Author.Rules.{rules}
 use Rattle.rewrite.specs.Sources.{settled_at}
 use Rattle.rewrite.proofs.sources.settled.Goals as goal
 

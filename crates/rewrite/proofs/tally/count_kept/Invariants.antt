@@ -1,10 +1,8 @@
 -- `rewrite::tally::count_kept` meets its contract.
-use Prim.Native.Nat.{◌+◌, ◌-◌, ◌≤◌}
-use native.Mathlib.Omega.{arith}
+use Prim.Native.Nat.{◌-◌, ◌≤◌}
 use lib.ListN.{length}
 use Rattle.records.specs.Access.{wires_of}
-use Rattle.records.proofs.Runs.{wires_length}
-use Rattle.rewrite.proofs.KeptTargets.{Counting, counting_start, counting_next, counting_end}
+use Rattle.rewrite.proofs.KeptTargets.{Counting}
 use Rattle.rewrite.proofs.tally.count_kept.Given as goal
 
 abbrev pub invariant-loop-i : goal.invariant-loop-i

@@ -1,6 +1,5 @@
 -- `rewrite::tally::kept` meets its contract.
 use mathlib.Core.Path.{refl}
-use borrow.Author.Rules.{rules}
 use borrow.Author.Tests.{ne_eqb}
 use Rattle.rewrite.proofs.tally.kept.Goals as goal
 

@@ -1,6 +1,5 @@
 -- `rewrite::tally::scan` meets its contract.
 use native.Mathlib.Omega.{arith}
-use borrow.Author.Rules.{rules}
 use Rattle.records.specs.Access.{wires_of}
 use Rattle.rewrite.proofs.KeptTargets.{kept_few, kept_counted}
 use Rattle.rewrite.proofs.tally.scan.Goals as goal

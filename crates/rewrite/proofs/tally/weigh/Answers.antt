@@ -1,5 +1,4 @@
 -- `rewrite::tally::weigh` meets its contract.
-use borrow.Author.Rules.{rules}
 use Rattle.rewrite.proofs.Tallying.{weigh_targets, weigh_source}
 use Rattle.rewrite.proofs.tally.weigh.Goals as goal
 

@@ -1,13 +1,11 @@
 -- `rewrite::tally::weigh_all` meets its contract.
 -- the count after the wire
 use mathlib.Core.Path.{ap, ◌∙◌}
-use Prim.Native.Nat.{ℕ, ◌+◌, ◌-◌, ◌*◌, ◌≤◌}
+use Prim.Native.Nat.{ℕ, ◌+◌, ◌*◌, ◌≤◌}
 use native.Mathlib.Omega.{arith}
-use borrow.Author.Rules.{rules}
-use Rattle.records.specs.Access.{wires_of}
 use Rattle.records.proofs.Runs.{wires_length}
 use Rattle.model.specs.TargetCounts.{cap}
-use Rattle.rewrite.proofs.Tallying.{Scanning, scan_start, scan_stuck, scan_next, scan_end, cap_later}
+use Rattle.rewrite.proofs.Tallying.{scan_start, scan_stuck, scan_next, scan_end, cap_later}
 use Rattle.rewrite.proofs.tally.weigh_all.Goals as goal
 use Rattle.rewrite.proofs.tally.weigh_all.Goals.{After-wide-count}
 

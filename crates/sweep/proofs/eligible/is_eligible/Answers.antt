@@ -1,5 +1,4 @@
 -- `sweep::eligible::is_eligible` meets its contract.
-use borrow.Author.Rules.{rules}
 use Rattle.sweep.proofs.Marks.{by_nofold, by_label, by_kept, by_literal}
 use Rattle.sweep.proofs.eligible.is_eligible.Goals as goal
 

@@ -1,6 +1,5 @@
 -- `sweep::eligible::is_pure` meets its contract.
 use mathlib.Core.Path.{refl}
-use borrow.Author.Rules.{rules}
 use Rattle.sweep.proofs.eligible.is_pure.Goals as goal
 
 pub returns : goal.returns

@@ -1,10 +1,9 @@
 -- `sweep::eligible::mark` meets its contract.
-use Prim.Native.Nat.{◌-◌}
 use native.Mathlib.Omega.{arith}
 use mathlib.Core.Path.{refl}
 use Rattle.ir.specs.Limits.{max_nodes}
 use Rattle.graph.specs.Decode.{graph_of}
-use Rattle.sweep.proofs.Marks.{Marking, marking_start, marking_more, marking_ends}
+use Rattle.sweep.proofs.Marks.{marking_start, marking_more, marking_ends}
 use Rattle.sweep.proofs.eligible.mark.Goals as goal
 
 pub loop-n-init : goal.loop-n-init

@@ -1,10 +1,7 @@
 -- `sweep::eligible::mark` meets its contract.
 use Prim.Native.Nat.{◌-◌}
-use native.Mathlib.Omega.{arith}
-use mathlib.Core.Path.{refl}
-use Rattle.ir.specs.Limits.{max_nodes}
 use Rattle.graph.specs.Decode.{graph_of}
-use Rattle.sweep.proofs.Marks.{Marking, marking_start, marking_more, marking_ends}
+use Rattle.sweep.proofs.Marks.{Marking}
 use Rattle.sweep.proofs.eligible.mark.Given as goal
 
 abbrev pub invariant-loop-n : goal.invariant-loop-n

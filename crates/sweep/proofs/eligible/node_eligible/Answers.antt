@@ -1,5 +1,4 @@
 -- `sweep::eligible::node_eligible` meets its contract.
-use borrow.Author.Rules.{rules}
 use Rattle.graph.specs.Decode.{graph_of}
 use Rattle.sweep.proofs.Marks.{node_read}
 use Rattle.sweep.proofs.eligible.node_eligible.Goals as goal

@@ -1,10 +1,7 @@
 -- `sweep::fates::remove` meets its contract.
 use Prim.Native.Nat.{◌-◌}
-use native.Mathlib.Omega.{arith}
-use mathlib.Core.Path.{refl}
-use borrow.Author.Rules.{rules}
 use Rattle.ir.specs.Limits.{max_nodes}
-use Rattle.sweep.proofs.Marks.{Removing, removing_start, removing_more}
+use Rattle.sweep.proofs.Marks.{Removing}
 use Rattle.sweep.proofs.fates.remove.Given as goal
 
 abbrev pub invariant-loop-n : goal.invariant-loop-n

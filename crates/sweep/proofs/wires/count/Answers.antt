@@ -1,12 +1,10 @@
 -- `sweep::wires::count` meets its contract.
-use Prim.Native.Nat.{◌+◌, ◌-◌, ◌≤◌}
+use Prim.Native.Nat.{◌+◌}
 use native.Mathlib.Omega.{arith}
-use mathlib.Core.Path.{◌≡◌, refl}
-use lib.ListN.{length, take}
+use mathlib.Core.Path.{refl}
 use Rattle.records.specs.Access.{wires_of}
 use Rattle.records.proofs.Runs.{wires_length}
 use Rattle.model.specs.Maps.{keep}
-use Rattle.sweep.specs.Queue.{stays_in}
 use Rattle.sweep.proofs.Stays.{counted_more, counted_all, counted_few}
 use Rattle.sweep.proofs.wires.count.Goals as goal
 

@@ -1,12 +1,6 @@
 -- `sweep::wires::write` meets its contract.
-use Prim.Native.Nat.{◌-◌}
-use borrow.Author.Rules.{rules}
-use Rattle.encoding.specs.Wires.{wire_bytes}
-use Rattle.records.specs.Access.{wires_of}
 use Rattle.records.proofs.Runs.{wires_length}
-use Rattle.model.specs.Answer.{each}
-use Rattle.answer.proofs.Fill.{Filling, fill_start, fill_long, fill_room, fill_next, fill_end}
-use Rattle.sweep.specs.Queue.{staying_at}
+use Rattle.answer.proofs.Fill.{fill_start, fill_long, fill_room, fill_next, fill_end}
 use Rattle.sweep.proofs.Stays.{staying_room, staying_each}
 use Rattle.sweep.proofs.wires.write.Goals as goal
 

@@ -2,7 +2,6 @@
 use native.Mathlib.Omega.{arith}
 use mathlib.Core.Path.{ap}
 use lib.ListN.{length}
-use borrow.Author.Rules.{rules}
 use Rattle.records.specs.Access.{wires_of}
 use Rattle.model.proofs.Each.{wires_size}
 use Rattle.sweep.specs.Queue.{staying_at}

@@ -1,6 +1,6 @@
 -- `worklist::consumers::join` meets its contract. The measure counts down from the most wires that a chain has.
 use native.Mathlib.Omega.{arith}
-use Rattle.worklist.proofs.Joining.{Walking, walk_starts, walk_ends, walk_wire, walk_target, walk_left, walk_next, walk_on}
+use Rattle.worklist.proofs.Joining.{walk_starts, walk_ends, walk_wire, walk_target, walk_left, walk_next, walk_on}
 use Rattle.worklist.proofs.consumers.join.Goals as goal
 
 pub loop-code-init : goal.loop-code-init

@@ -1,7 +1,5 @@
 -- `worklist::consumers::join` meets its contract. The measure counts down from the most wires that a chain has.
-use native.Mathlib.Omega.{arith}
-use borrow.Author.Rules.{rules}
-use Rattle.worklist.proofs.Joining.{Walking, walk_starts, walk_ends, walk_wire, walk_target, walk_left, walk_next, walk_on}
+use Rattle.worklist.proofs.Joining.{Walking}
 use Rattle.worklist.proofs.consumers.join.Given as goal
 
 abbrev pub invariant-loop-code : goal.invariant-loop-code

@@ -1,10 +1,7 @@
 -- `worklist::queue::fill` meets its contract.
-use mathlib.Core.Path.{◌≡◌}
 use Prim.Native.Nat.{◌-◌, ◌≤◌}
-use borrow.Author.Rules.{rules}
 use Rattle.model.specs.Maps.{up_to}
 use Rattle.worklist.specs.Queue.{Queued}
-use Rattle.worklist.proofs.Queues.{fill_on}
 use Rattle.worklist.proofs.queue.fill.Given as goal
 
 abbrev pub invariant-loop-n : goal.invariant-loop-n
