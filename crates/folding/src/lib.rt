@@ -247,9 +247,8 @@ fn fold_input(input: &[u8], out: &mut [u8]) -> Outcome
     }
 }
 
-// `fold` for other languages: the refusal's number, or 0, and document 01's place, length and pops through the pointers.
-#[unsafe(no_mangle)]
-pub extern "C" fn mezburiko_fold(
+// `fold` in numbers, as folding_c gives it to other languages: the refusal's number, or 0, and document 01's place, length and pops through the pointers.
+pub fn mezburiko_fold(
     input: &[u8],
     out: &mut [u8],
     place: &mut usize,

@@ -57,8 +57,7 @@ fn write_given(answer: &mut [u8; 33], given: OptionValue)
 }
 
 // What the gate of a case gives.
-#[unsafe(no_mangle)]
-pub extern "C" fn mezburiko_gate_case(case: &[u8; 100], answer: &mut [u8; 33])
+pub fn mezburiko_gate_case(case: &[u8; 100], answer: &mut [u8; 33])
     ensures { answer.new ≡ answer_bytes (given_of case.now) }
 {
     *answer = [0u8; 33];
@@ -70,16 +69,14 @@ pub extern "C" fn mezburiko_gate_case(case: &[u8; 100], answer: &mut [u8; 33])
 }
 
 // The remainder of two floats.
-#[unsafe(no_mangle)]
-pub extern "C" fn mezburiko_remainder(x: f64, y: f64) -> f64
+pub fn mezburiko_remainder(x: f64, y: f64) -> f64
     ensures { result ≡ Ieee.rem binary64 x y }
 {
     ieee::remainder(x, y)
 }
 
 // The root of a float; a NaN where it has none.
-#[unsafe(no_mangle)]
-pub extern "C" fn mezburiko_sqrt(x: f64) -> f64
+pub fn mezburiko_sqrt(x: f64) -> f64
     ensures { result ≡ or_nan (sqrt_of x) }
 {
     match root::float::sqrt(x) {

@@ -79,9 +79,8 @@ pub fn whole_root(n: u64) -> WholeRoot
     root_at(n, high >> half)
 }
 
-// `whole_root` for other languages: the root, and the remainder through the pointer.
-#[unsafe(no_mangle)]
-pub extern "C" fn mezburiko_whole_root(n: u64, remainder: &mut u64) -> u64
+// `whole_root` in numbers, as root_c gives it to other languages: the root, and the remainder through the pointer.
+pub fn mezburiko_whole_root(n: u64, remainder: &mut u64) -> u64
     ensures root { IsWholeRoot n result remainder.new }
     ensures only { OnlyWholeRoot n result remainder.new }
     ensures largest { result ≡ whole_root_of n }

@@ -10,8 +10,7 @@ use propagation::Propagated;
 use state::WORDS;
 
 // The refusal's number of questions 1 to 8 and 12, or 0, and the pops of the worklist.
-#[unsafe(no_mangle)]
-pub extern "C" fn mezburiko_worklist(input: &[u8], pops: &mut usize) -> u8
+pub fn mezburiko_worklist(input: &[u8], pops: &mut usize) -> u8
     ensures number { result ≡ number_in (decode input.now) }
     ensures pops { pops.new ≡ pops_in (decode input.now) }
 {

@@ -195,9 +195,8 @@ pub fn fold_swept(input: &[u8], out: &mut [u8]) -> Outcome
     fold_input(input, out)
 }
 
-// `fold_swept` for other languages: the refusal's number, or 0, and document 01's place, length and pops through the pointers.
-#[unsafe(no_mangle)]
-pub extern "C" fn mezburiko_fold_swept(
+// `fold_swept` in numbers, as swept_c gives it to other languages: the refusal's number, or 0, and document 01's place, length and pops through the pointers.
+pub fn mezburiko_fold_swept(
     input: &[u8],
     out: &mut [u8],
     place: &mut usize,
