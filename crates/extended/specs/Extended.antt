@@ -47,7 +47,7 @@ abs_of a =
     on_int_else (as_int_of a) (on_float (as_float_of a) (λ x. given_finite (abs_float x)))
     (λ n. given_int (checked_abs_of n))
 
--- "Min and Max of floats are minimum_number and maximum_number of IEEE 754-2019"
+-- "Min and Max of floats are minimumNumber and maximumNumber of IEEE 754-2019"
 abbrev pub min_floats : Operand → Operand → OptionValue
 min_floats a b = on_float (as_float_of a) (λ x. on_float (as_float_of b) (λ y. given_finite (minimum_number x y)))
 

@@ -1,4 +1,4 @@
--- "Min and Max of floats are minimum_number and maximum_number of IEEE 754-2019: a NaN operand yields the other, and -0.0 is below 0.0" (document 01, "Corners of
+-- "Min and Max of floats are minimumNumber and maximumNumber of IEEE 754-2019: a NaN operand yields the other, and -0.0 is below 0.0" (document 01, "Corners of
 -- semantics.rs"). The quotes below are the standard's, 9.6. lib.Ieee has one NaN: quiet and signaling play no part.
 use Rattle.std.specs.Prelude.{◌≡◌, Bool, false, not, ◌&&◌, ◌||◌, cond, ◌⊎◌, Float}
 use Rattle.std.specs.Float.Ieee.{is_nan, lt, eq}

@@ -21,14 +21,3 @@ max_rows = 1024
 -- With wires there is such a node, since a wire into a planned literal is dropped.
 abbrev pub max_answer : ℕ
 max_answer = 7 * max_wires + 55 * (max_nodes - 1) + 39
-
--- "each of 72 characters and a newline"
-abbrev pub line_width : ℕ
-line_width = 72
-
-abbrev pub line_bytes : ℕ
-line_bytes = line_width + 1
-
--- The most bytes that a service sheet has: its header, and a line for each node.
-abbrev pub max_sheet : ℕ
-max_sheet = line_bytes + line_bytes * max_nodes

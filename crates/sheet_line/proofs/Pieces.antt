@@ -10,7 +10,7 @@ use lib.Dec.{ltb}
 use lib.ListN.{length, get_or, take, drop, length-append, length-drop, length-replicate, replicate-append-replicate}
 use lib.Seq.{take-suc, take-length, take_at, drop-append-le, drop-append-add, length-take-le}
 use borrow.Author.Tests.{lt-ltb, le-ltb, ltb-true, ltb-false}
-use Rattle.ir.specs.Limits.{line_width, line_bytes}
+use Rattle.sheet_line.specs.Limits.{line_width, line_bytes}
 use Rattle.encoding.specs.Numbers.{bytes_of, splice, Written}
 use Rattle.encoding.proofs.Splices.{written_length, written_more, same_written}
 use Rattle.model.specs.Maps.{up_to}

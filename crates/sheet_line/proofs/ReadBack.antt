@@ -10,7 +10,7 @@ use mathlib.Core.List.{List, [], ◌∷◌, ◌++◌}
 use lib.Dec.{eqb, ltb}
 use lib.ListN.{length, get_or, length-replicate, get_or-replicate, get_or-append}
 use borrow.Author.Tests.{lt-ltb, le-ltb, ltb-true, ltb-false}
-use Rattle.ir.specs.Limits.{line_width}
+use Rattle.sheet_line.specs.Limits.{line_width}
 use Rattle.text.specs.Text.{eq_bytes}
 use Rattle.text.proofs.Texts.{bytes_refl, bytes_same}
 use Rattle.encoding.specs.Numbers.{byte}

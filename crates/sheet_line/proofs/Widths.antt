@@ -8,7 +8,7 @@ use mathlib.Core.List.{List, [], ◌∷◌, ◌++◌}
 use lib.Dec.{ltb, leb}
 use lib.ListN.{length, length-append, length-replicate}
 use borrow.Author.Tests.{ltb-true, leb-true}
-use Rattle.ir.specs.Limits.{line_width, line_bytes}
+use Rattle.sheet_line.specs.Limits.{line_width, line_bytes}
 use Rattle.text.specs.Listed.{first_char, last_char}
 use Rattle.graph.proofs.Roles.{and_left, and_right}
 use Rattle.model.specs.Maps.{All}

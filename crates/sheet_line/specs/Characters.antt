@@ -3,7 +3,7 @@ use Rattle.std.specs.Prelude.{ℕ, zero, suc, ◌+◌, ◌-◌, ◌/◌, ◌%◌
 use Prim.Native.Char.{code}
 use Prim.Native.String as Text
 use Prim.Native.String.{String}
-use Rattle.ir.specs.Limits.{line_width}
+use Rattle.sheet_line.specs.Limits.{line_width}
 use Rattle.text.specs.Listed.{first_char, last_char}
 use Rattle.model.specs.Maps.{All}
 use Rattle.model.specs.Answer.{each}

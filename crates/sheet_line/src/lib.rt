@@ -2,13 +2,21 @@
 #![tactic(auto)]
 
 ghost use Rattle.std.specs.Prelude.{◌≡◌, cond, [], ◌∷◌, ◌+◌, ◌/◌, ◌^◌, ◌≤◌, ◌<◌, ltb, length};
-ghost use Rattle.ir.specs.Limits.{line_bytes};
+ghost use Rattle.sheet_line.specs.Limits.{line_bytes};
 ghost use Rattle.encoding.specs.Numbers.{bytes_of, Written};
 ghost use Rattle.sheet_line.specs.Characters.{space, spaces, digit, hex, head_text, number_text, fate_text, text, ended, header_text, Wide};
 ghost use Rattle.sheet_line.specs.Reader.{ReadsBack};
 
 use encoding::numbers;
 use ir::limit;
+
+// How many characters a line has, and how many bytes with its newline.
+pub const LINE_WIDTH: usize = 72;
+
+pub const LINE_BYTES: usize = LINE_WIDTH + 1;
+
+// The most bytes that a sheet has: its header, and a line for each node.
+pub const SHEET: usize = LINE_BYTES + LINE_BYTES * limit::NODES;
 
 // What becomes of a node; of a literal the bits of its numbers.
 #[derive(Clone, Copy)]
@@ -100,7 +108,7 @@ fn write_blank(out: &mut [u8], at: usize) -> usize
     requires { at + line_bytes ≤ length out.old }
     ensures { Written (ended []) out.old out.new at result }
 {
-    let next = write_spaces(out, at, limit::LINE_WIDTH);
+    let next = write_spaces(out, at, LINE_WIDTH);
     numbers::write_byte(out, next, b'\n')
 }
 
