@@ -49,7 +49,6 @@ class Fn:
         self.asked = names["asked_at"]
         self.needs = {}
         for i, (old, new) in enumerate(names["needs"]):
-            at = names["places"][0][0]
             self.needs[plain(old)] = (new, self.asked[i] if i < len(self.asked) else None)
 
     def chain(self, place):
@@ -269,16 +268,13 @@ def main(crate, file):
             value, bad = fn.turned(value, at[0], fn_name, new)
             params = [p for p in params if p != "κs"]
             note = "".join(f"-- unturned: {x}\n" for x in bad)
-            ans.append((name, new, note + f"pub {new} : goal.{new}\n" + (unf + "\n" if unf else "") + f"{new} {' '.join(params)} ={value.rstrip()}"))
-        # answers that cite other answers by their old names
-        rename = {o: n for o, n, _ in ans if o != n}
+            ans.append((new, note + f"pub {new} : goal.{new}\n" + (unf + "\n" if unf else "") + f"{new} {' '.join(params)} ={value.rstrip()}"))
         module = f"Rattle.{crate}.proofs." + ".".join(path)
-        uses = [u for u in uses]
         if inv:
             with open(folder + "/Invariants.antt", "w", encoding="utf-8") as out:
                 out.write("\n".join([*head, *uses, f"use {module}.Given as goal"]) + "\n\n" + "\n\n".join([*[h for h in helpers if used(h, inv)], *inv]) + "\n")
         if ans or helpers:
-            texts = [re.sub(rf"(?<![^\s(){{}},;])({'|'.join(map(re.escape, rename))})(?![^\s(){{}},;.])", lambda m: rename[m.group(1)], t) if rename and False else t for _, _, t in ans]
+            texts = [t for _, t in ans]
             with open(folder + "/Answers.antt", "w", encoding="utf-8") as out:
                 out.write("\n".join([*head, *uses, f"use {module}.Goals as goal"]) + "\n\n" + "\n\n".join([*helpers, *texts]) + "\n")
         if left:

@@ -64,12 +64,12 @@ body_of-size-requires c = tt
 pub overflow_add-size : goal.overflow_add-size
 overflow_add-size c =
     let p = passed _ _ _ _ (ok (goal.at.overflow_add-size c).In_default) in
-    omega (arith, c.body_of-size.ensures, p.whole, c.if-input-gt-INPUT.false)
+    omega (arith, c.body_of-size.ensures, p.whole)
 
 pub overflow_add-at : goal.overflow_add-at
 overflow_add-at c =
     let p = passed _ _ _ _ (ok (goal.at.overflow_add-at c).In_default) in
-    omega (arith, c.body_of-size.ensures, p.whole, c.if-input-gt-INPUT.false)
+    omega (arith, c.body_of-size.ensures, p.whole)
 
 pub read_same-run-requires : goal.read_same-run-requires
 read_same-run-requires c =
