@@ -12,17 +12,13 @@ use Rattle.graph.specs.Layout.{size_by}
 use Rattle.graph.proofs.Roles.{size_by_lem, and_left, and_right}
 use Rattle.graph.proofs.Asked.{next_of, next_whole, next_tests, next_first}
 use Rattle.graph.proofs.question.is_next.Goals as goal
-use Rattle.graph.proofs.question.is_next.Goals.{Else-not-listed-ordered}
 
+-- the tests that passed: questions 4, 12, 6 and 8
 four : (a b d e : Bool) → (((a && b) && d) && e) ≡ true → (a ≡ true) × (b ≡ true) × (d ≡ true) × (e ≡ true)
 four a b d e h =
     let x = and_left ((a && b) && d) e h in
     let y = and_left (a && b) d x in
     (and_left a b y, and_right a b y, and_right (a && b) d x, and_right ((a && b) && d) e h)
-
--- the tests that passed: questions 4, 12, 6 and 8
-tests : (c : Else-not-listed-ordered) → (c.is_listed-listed.result ≡ true) × (c.orders_no_text-ordered.result ≡ true) × (c.has_nodes-present.result ≡ true) × (c.has_room.result ≡ true)
-tests c = four _ _ _ _ c.if-not-listed-ordered.false
 
 -- question 4 asks nothing of a text where there is none
 no_text : (s : List ℕ) (at kind : ℕ) → byte s at ≡ kind → (kind ≡ text_kind → ⊥) → has_listed_text s at ≡ true
@@ -53,7 +49,7 @@ returns-then-not-listed-ordered c =
 
 pub is_first-requires : goal.is_first-requires
 is_first-requires c =
-    let t = tests (goal.at.is_first-requires c).Else-not-listed-ordered in
+    let t = four _ _ _ _ c.if-not-listed-ordered.false in
     record {
       whole = omega (arith, ap size_by c.requires.0, size_by_lem c.args.kind);
       listed = sym c.is_listed-listed.ensures ∙ t.0;
@@ -63,12 +59,12 @@ is_first-requires c =
 
 pub returns : goal.returns
 returns c =
-    let t = tests (goal.at.returns c).Else-not-listed-ordered in
+    let passed = four _ _ _ _ c.if-not-listed-ordered.false in
     record {
       next = λ e.
           next_of c.requires.0 c.requires.1 (omega arith) c.if-s-at-2.false
-          (sym c.is_listed-listed.ensures ∙ t.0) (sym c.orders_no_text-ordered.ensures ∙ t.1)
-          (sym c.has_nodes-present.ensures ∙ t.2) (sym c.has_room.ensures ∙ t.3)
+          (sym c.is_listed-listed.ensures ∙ passed.0) (sym c.orders_no_text-ordered.ensures ∙ passed.1)
+          (sym c.has_nodes-present.ensures ∙ passed.2) (sym c.has_room.ensures ∙ passed.3)
           (λ g h. sym (c.is_first.ensures g h) ∙ e) (no_text c.args.s.now c.args.at c.args.kind c.if-s-at-2.false c.requires.4);
       every = λ g h n. c.is_first.ensures g h ∙ next_first c.requires.0 c.requires.1 g h n;
     }
