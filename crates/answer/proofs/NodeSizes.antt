@@ -1,14 +1,15 @@
 -- How long the records of a node are, by the kind of its value and its action.
+use Rattle.std.specs.Prelude.{Option, None, Some}
 use Prim.Native.Nat.{ℕ, zero, suc, ◌+◌, ◌*◌, ◌≤◌, ◌<◌}
 use native.Mathlib.Omega.{arith}
 use native.Mathlib.Numerals.{add-one}
 use native.Mathlib.Decide.{ℕ_discrete}
 use mathlib.Core.Path.{◌≡◌, refl, subst}
 use mathlib.Core.Bool.{Bool, true, false, cond}
-use mathlib.Core.Option.{Option, none, some}
 use mathlib.Core.List.{List, []}
 use mathlib.Core.Logic.{inl, inr, ◌≢◌}
 use lib.Dec.{eqb, ltb}
+use mir.Val.{bool_byte}
 use lib.ListN.{length, get_or}
 use borrow.Author.Tests.{ne_eqb, ltb-true, ltb-false, le-ltb}
 use Rattle.ir.specs.Kinds.{role_of, body_of}
@@ -97,19 +98,16 @@ module _ (i kind a b c d : ℕ) where
 
 -- ---- what is written of a node
 
-pub kind_low : (kind : ℕ) → role_of kind ≡ Property → kind ≤ 12
-kind_low = by_kind (λ k. k ≤ 12) (omega arith) (omega arith) (omega arith) (omega arith) (omega arith) (omega arith) (omega arith) (omega arith)
-
-pub bytes_none : (i : ℕ) (o : Option Value) → o ≡ none → known_bytes i o ≡ []
+pub bytes_none : (i : ℕ) (o : Option Value) → o ≡ None → known_bytes i o ≡ []
 unfolding known_bytes
 bytes_none i o e = rw e refl
 
-pub bytes_some : (i : ℕ) (o : Option Value) (v : Value) → o ≡ some v → known_bytes i o ≡ property_bytes i value_port v
+pub bytes_some : (i : ℕ) (o : Option Value) (v : Value) → o ≡ Some v → known_bytes i o ≡ property_bytes i value_port v
 unfolding known_bytes
 bytes_some i o v e = rw e refl
 
 -- a known node's record is as long whichever port it names
-pub port_room : (i port at n : ℕ) (o : Option Value) (v : Value) → o ≡ some v → at + length (known_bytes i o) ≤ n → at + length (property_bytes i port v) ≤ n
+pub port_room : (i port at n : ℕ) (o : Option Value) (v : Value) → o ≡ Some v → at + length (known_bytes i o) ≤ n → at + length (property_bytes i port v) ≤ n
 unfolding known_bytes bytes_of
 port_room i port at n o v e h = subst (λ (k : Option Value). at + length (known_bytes i k) ≤ n) e h
 
@@ -117,11 +115,11 @@ pub by_plain : (i action : ℕ) (o : Option Value) → action ≢ 1 → fate_by 
 unfolding fate_by
 by_plain i action o h = rw (ne_eqb action 1 h) refl
 
-pub by_unknown : (i action : ℕ) (o : Option Value) → action ≡ 1 → o ≡ none → fate_by i action o ≡ head_bytes 0x10 i
+pub by_unknown : (i action : ℕ) (o : Option Value) → action ≡ 1 → o ≡ None → fate_by i action o ≡ head_bytes 0x10 i
 unfolding fate_by literal_fate
 by_unknown i action o e h = rw (e, h) refl
 
-pub by_literal : (i action : ℕ) (o : Option Value) (v : Value) → action ≡ 1 → o ≡ some v → fate_by i action o ≡ literal_fate i (some v)
+pub by_literal : (i action : ℕ) (o : Option Value) (v : Value) → action ≡ 1 → o ≡ Some v → fate_by i action o ≡ literal_fate i (Some v)
 unfolding fate_by
 by_literal i action o v e h = rw (e, h) refl
 
@@ -130,6 +128,14 @@ unfolding bytes_of
 head_size kind i = refl
 
 -- ---- the count of composites
+
+pub byte_count : (b : Bool) → bool_byte b ≡ cond b 1 0
+byte_count true = refl
+byte_count false = refl
+
+pub count_small : (b : Bool) → cond b 1 0 ≤ 1
+count_small true = omega arith
+count_small false = omega arith
 
 pub count_none : (kinds : List ℕ) → composite_count kinds 0 ≡ 0
 unfolding composite_count

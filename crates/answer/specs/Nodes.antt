@@ -1,6 +1,5 @@
 -- The records of known nodes and of fates, by what the arrays hold.
-use Rattle.std.specs.Prelude.{ℕ, zero, suc, ◌+◌, cond, List, ◌++◌, eqb, ltb, get_or}
-use Rattle.std.proofs.Math.Option.{Option, none, some}
+use Rattle.std.specs.Prelude.{ℕ, zero, suc, ◌+◌, cond, List, ◌++◌, eqb, ltb, get_or, Option, None, Some}
 use Rattle.value.specs.declared.Value.{Value}
 use Rattle.encoding.specs.Values.{kind_of, value_bytes, head_bytes}
 use Rattle.model.specs.Maps.{up_to}
@@ -13,8 +12,8 @@ known_records kinds words n = each (λ i. known_bytes i (known_of kinds words i)
 
 -- the fate of node i by its action: a literal has its known value, a planned Select or Branch is removed, any other node is kept
 unfoldable pub literal_fate : ℕ → Option Value → List ℕ
-literal_fate i none = head_bytes 0x10 i
-literal_fate i (some v) = head_bytes (0xf + kind_of v) i ++ value_bytes v
+literal_fate i None = head_bytes 0x10 i
+literal_fate i (Some v) = head_bytes (0xf + kind_of v) i ++ value_bytes v
 
 unfoldable pub fate_by : ℕ → ℕ → Option Value → List ℕ
 fate_by i action o = cond (eqb action 1) (literal_fate i o) (head_bytes (cond (eqb action 0) 0x10 0x11) i)

@@ -3,11 +3,10 @@
 
 ghost use Rattle.std.specs.Prelude.{◌≡◌};
 ghost use Rattle.conversions.specs.Conversions.{scalar_of};
-ghost use Rattle.arithmetic.specs.Arithmetic.{whole_op, float_op, mixed_signs, float_math, floats_math, as_real, numbers_math, spread_scalar, is_vector, spread, finite_vector, vector_math, math_of};
+ghost use Rattle.arithmetic.specs.Arithmetic.{whole_op, float_op, mixed_signs, float_math, as_real, numbers_math, spread_scalar, is_vector, spread, finite_vector, vector_math, math_of};
 
 use conversions::MathIn;
-use value::{Operand, OptionValue, Value};
-use whole::{OptionFloat, OptionInt};
+use value::{Operand, Value};
 
 #[derive(Clone, Copy)]
 pub enum MathOp {
@@ -18,16 +17,17 @@ pub enum MathOp {
     Modulo,
 }
 
-// The parts of a Vector, if there are any.
+// The parts of a Vector.
 #[derive(Clone, Copy)]
-pub enum OptionVector {
-    None,
-    Some { x: f64, y: f64, z: f64 },
+pub struct Vector {
+    pub x: f64,
+    pub y: f64,
+    pub z: f64,
 }
 
 // ---- One operation on two numbers
 
-fn whole_op(op: MathOp, a: i64, b: i64) -> OptionInt
+fn whole_op(op: MathOp, a: i64, b: i64) -> Option<i64>
     ensures { result ≡ whole_op op a b }
 {
     match op {
@@ -60,58 +60,56 @@ fn mixed_signs(x: f64, y: f64, remainder: f64) -> bool
 }
 
 // Modulo: the truncated remainder, None by the sign rule.
-fn modulo(x: f64, y: f64) -> OptionValue
+#[tactic(auto, unfolding(crate::specs::Arithmetic::float_math))]
+fn modulo(x: f64, y: f64) -> Option<Value>
     ensures { result ≡ float_math MathOp.Modulo x y }
 {
     let remainder = ieee::remainder(x, y);
     if mixed_signs(x, y, remainder) {
-        OptionValue::None
+        None
     } else {
-        OptionValue::Some(Value::Float(remainder))
+        Some(Value::Float(remainder))
     }
 }
 
-fn float_math(op: MathOp, x: f64, y: f64) -> OptionValue
+#[tactic(auto, unfolding(crate::specs::Arithmetic::float_math))]
+fn float_math(op: MathOp, x: f64, y: f64) -> Option<Value>
     ensures { result ≡ float_math op x y }
 {
     match op {
         MathOp::Modulo => modulo(x, y),
-        _ => OptionValue::Some(Value::Float(component_op(op, x, y))),
+        _ => Some(Value::Float(component_op(op, x, y))),
     }
 }
 
-fn to_f(a: MathIn) -> OptionFloat
+fn to_f(a: MathIn) -> Option<f64>
     ensures { result ≡ as_real a }
 {
     match a {
-        MathIn::None => OptionFloat::None,
         MathIn::I(n) => whole::int_as_f64(n),
-        MathIn::F(x) => OptionFloat::Some(x),
+        MathIn::F(x) => Some(x),
     }
 }
 
-fn floats_math(op: MathOp, a: OptionFloat, b: OptionFloat) -> OptionValue
-    ensures { result ≡ floats_math op a b }
-{
-    let OptionFloat::Some(x) = a else {
-        return OptionValue::None;
-    };
-    let OptionFloat::Some(y) = b else {
-        return OptionValue::None;
-    };
-    float_math(op, x, y)
-}
-
-fn numbers_math(op: MathOp, a: MathIn, b: MathIn) -> OptionValue
+fn numbers_math(op: MathOp, a: Option<MathIn>, b: Option<MathIn>) -> Option<Value>
     ensures { result ≡ numbers_math op a b }
 {
-    let MathIn::I(m) = a else {
-        return floats_math(op, to_f(a), to_f(b));
+    let Some(a) = a else {
+        return None;
     };
-    let MathIn::I(n) = b else {
-        return floats_math(op, to_f(a), to_f(b));
+    let Some(b) = b else {
+        return None;
     };
-    conversions::given_int(whole_op(op, m, n))
+    if let (MathIn::I(m), MathIn::I(n)) = (a, b) {
+        return conversions::given_int(whole_op(op, m, n));
+    }
+    let Some(x) = to_f(a) else {
+        return None;
+    };
+    let Some(y) = to_f(b) else {
+        return None;
+    };
+    float_math(op, x, y)
 }
 
 // ---- Vectors
@@ -119,81 +117,64 @@ fn numbers_math(op: MathOp, a: MathIn, b: MathIn) -> OptionValue
 fn is_vector(a: Operand) -> bool
     ensures { result ≡ is_vector a }
 {
-    let Operand::Known(v) = a else {
-        return false;
-    };
-    let Value::Vector { x: _, y: _, z: _ } = v else {
-        return false;
-    };
-    true
+    matches!(a, Some(Value::Vector { .. }))
 }
 
 // A scalar stands for all three parts.
-fn broadcast_scalar(a: Operand) -> OptionVector
+fn broadcast_scalar(a: Operand) -> Option<Vector>
     ensures { result ≡ spread_scalar (scalar_of a) }
 {
-    let OptionFloat::Some(s) = conversions::scalar(a) else {
-        return OptionVector::None;
+    let Some(s) = conversions::scalar(a) else {
+        return None;
     };
-    OptionVector::Some { x: s, y: s, z: s }
+    Some(Vector { x: s, y: s, z: s })
 }
 
 // The parts that an operand has beside a Vector.
-fn spread(a: Operand) -> OptionVector
+fn spread(a: Operand) -> Option<Vector>
     ensures { result ≡ spread a }
 {
-    let Operand::Known(v) = a else {
+    let Some(Value::Vector { x, y, z }) = a else {
         return broadcast_scalar(a);
     };
-    let Value::Vector { x, y, z } = v else {
-        return broadcast_scalar(a);
-    };
-    OptionVector::Some {
+    Some(Vector {
         x: ieee::sanitize(x),
         y: ieee::sanitize(y),
         z: ieee::sanitize(z),
-    }
+    })
 }
 
-fn finite3(x: f64, y: f64, z: f64) -> OptionValue
+#[tactic(auto, unfolding(crate::specs::Arithmetic::finite_vector))]
+fn finite3(x: f64, y: f64, z: f64) -> Option<Value>
     ensures { result ≡ finite_vector x y z }
 {
-    if ieee::is_finite(x) & ieee::is_finite(y) & ieee::is_finite(z) {
-        OptionValue::Some(Value::Vector { x, y, z })
-    } else {
-        OptionValue::None
-    }
+    (ieee::is_finite(x) & ieee::is_finite(y) & ieee::is_finite(z)).then_some(Value::Vector {
+        x,
+        y,
+        z,
+    })
 }
 
-fn composite_math(op: MathOp, a: OptionVector, b: OptionVector) -> OptionValue
+fn composite_math(op: MathOp, a: Option<Vector>, b: Option<Vector>) -> Option<Value>
     ensures { result ≡ vector_math op a b }
 {
-    let OptionVector::Some {
-        x: x1,
-        y: y1,
-        z: z1,
-    } = a
-    else {
-        return OptionValue::None;
+    let Some(v) = a else {
+        return None;
     };
-    let OptionVector::Some {
-        x: x2,
-        y: y2,
-        z: z2,
-    } = b
-    else {
-        return OptionValue::None;
+    let Some(w) = b else {
+        return None;
     };
     finite3(
-        component_op(op, x1, x2),
-        component_op(op, y1, y2),
-        component_op(op, z1, z2),
+        component_op(op, v.x, w.x),
+        component_op(op, v.y, w.y),
+        component_op(op, v.z, w.z),
     )
 }
 
 // ---- The gates
 
-pub fn math(op: MathOp, a: Operand, b: Operand) -> OptionValue
+#[tactic(auto, unfolding(crate::specs::Arithmetic::math_of))]
+pub fn math(op: MathOp, a: Operand, b: Operand) -> Option<Value>
     ensures { result ≡ math_of op a b }
 {
     if is_vector(a) | is_vector(b) {
@@ -203,8 +184,8 @@ pub fn math(op: MathOp, a: Operand, b: Operand) -> OptionValue
 }
 
 // .. of two whole numbers.
-pub fn whole_math(op: MathOp, a: i64, b: i64) -> OptionValue
-    ensures { result ≡ numbers_math op (MathIn.I a) (MathIn.I b) }
+pub fn whole_math(op: MathOp, a: i64, b: i64) -> Option<Value>
+    ensures { result ≡ numbers_math op (Some (MathIn.I a)) (Some (MathIn.I b)) }
 {
     conversions::given_int(whole_op(op, a, b))
 }

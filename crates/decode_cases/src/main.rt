@@ -5,7 +5,7 @@
 ghost use Rattle.std.specs.Prelude.{◌+◌, ◌≤◌, ◌<◌, length};
 
 use encoding::numbers;
-use graph::{Decoded, SLOTS, refusals};
+use graph::SLOTS;
 
 const HEAD: usize = 64;
 
@@ -20,7 +20,7 @@ fn agrees(input: &[u8], head: &[u8], table: &mut [u16; SLOTS]) -> bool
 {
     let number = numbers::read_u64(head, 8);
     match records::decode(input, table) {
-        Decoded::Accepted(c) => {
+        Ok(c) => {
             (number == 0)
                 & (numbers::read_u64(head, 24) == c.nodes as u64)
                 & (numbers::read_u64(head, 32) == c.wires as u64)
@@ -28,17 +28,10 @@ fn agrees(input: &[u8], head: &[u8], table: &mut [u16; SLOTS]) -> bool
                 & (numbers::read_u64(head, 48) == c.rows as u64)
                 & (numbers::read_u64(head, 56) == c.annihilators as u64)
         }
-        Decoded::Refused(r) => {
-            (number == refusals::number_of(r) as u64)
-                & (numbers::read_u64(head, 16) == refusals::place_of(r) as u64)
+        Err(r) => {
+            (number == u64::from(r.number())) & (numbers::read_u64(head, 16) == r.place() as u64)
         }
     }
-}
-
-fn one_unless(b: bool) -> u64
-    ensures { result ≤ 1 }
-{
-    if b { 0 } else { 1 }
 }
 
 // The case at an offset. One that runs past the end differs.
@@ -59,7 +52,7 @@ fn run_case(all: &[u8], at: usize, table: &mut [u16; SLOTS]) -> Step
     let same = agrees(&all[from..to], &all[at..from], table);
     Step {
         next: to,
-        differs: one_unless(same),
+        differs: u64::from(!same),
     }
 }
 
@@ -70,8 +63,8 @@ fn run_all(all: &[u8], table: &mut [u16; SLOTS]) {
     while HEAD <= all.len() - at {
         let step = run_case(all, at, table);
         at = step.next;
-        differ = differ + step.differs;
-        ran = ran + 1;
+        differ += step.differs;
+        ran += 1;
     }
     io::print_decimal(1, ran);
     io::write_all(1, b" cases, ");

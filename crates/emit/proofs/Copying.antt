@@ -1,52 +1,31 @@
 -- The wires that stay, and the copy of all where nothing is planned.
-use mathlib.Core.Path.{◌≡◌, refl, sym, ap, ◌∙◌, subst}
+use mathlib.Core.Path.{◌≡◌, refl, sym, ap, ap₂, ◌∙◌, subst}
 use mathlib.Core.Bool.{cond}
 use mathlib.Core.List.{List, [], ◌∷◌, ◌++◌}
-use Prim.Native.Nat.{ℕ, ◌+◌, ◌/◌, ◌≤◌, ◌<◌}
+use Prim.Native.Nat.{ℕ, ◌+◌, ◌-◌, ◌≤◌, ◌<◌}
 use native.Mathlib.Omega.{arith}
-use native.Mathlib.Numerals.{add-one}
 use lib.Dec.{eqb}
-use lib.ListN.{length, get_or, set, take, length-append}
-use lib.Seq.{take-suc, take_all, length-take-le}
+use lib.ListN.{length, get_or, take}
+use lib.Seq.{take_all}
+use borrow.Rule.Slice.PartMut.{put_mid, Post-is}
 use borrow.Author.Tests.{ne_eqb}
 use Rattle.ir.specs.Ports.{output}
-use Rattle.encoding.specs.Numbers.{Written}
+use Rattle.encoding.specs.Numbers.{splice, Written}
 use Rattle.encoding.specs.Wires.{wire_bytes}
-use Rattle.encoding.proofs.Splices.{written_length, written_more, stored_1}
 use Rattle.ir.specs.declared.Wire.{Wire}
 use Rattle.records.specs.Access.{wires_of, no_wire}
-use Rattle.records.proofs.Runs.{wires_length}
 use Rattle.model.specs.Answer.{each}
 use Rattle.model.specs.Maps.{up_to}
 use Rattle.model.proofs.Each.{each_append, wires_size}
-use Rattle.answer.proofs.Fill.{written_none}
 use Rattle.rewrite.specs.Tallied.{kept_wire, kept_wires}
 use Rattle.rewrite.proofs.KeptTargets.{kept_few, all_kept}
 use Rattle.emit.specs.Emit.{KeepsAll}
 use Rattle.emit.proofs.Writing.{by_number}
 
--- the first i bytes are copied, of those that fit
-pub record Copying (bs l m : List ℕ) (at i : ℕ) : Type 0 where
-  pub within : i ≤ length bs
-  pub room : at + length bs ≤ length l
-  pub wrote : Written (take i bs) l m at (at + i)
-
-pub copy_start : (bs l : List ℕ) (at : ℕ) → at + length bs ≤ length l → Copying bs l l at 0
-copy_start bs l at h = record { within = omega arith; room = h; wrote = record { wrote = (written_none l at (omega arith)).wrote; past = omega arith } }
-
-module _ {bs l m : List ℕ} {at i : ℕ} (s : Copying bs l m at i) where
-  pub copy_long : length m ≡ length l
-  copy_long = written_length s.wrote (omega (arith, s.room, s.within, length-take-le i bs s.within))
-
-  pub copy_next : i < length bs → Copying bs l (set m (at + i) (get_or bs i 0)) at (i + 1)
-  copy_next h =
-      let e : take (i + 1) bs ≡ take i bs ++ (get_or bs i 0 ∷ []) = ap (λ (k : ℕ). take k bs) (add-one i) ∙ take-suc bs i 0 h in
-      let long : length (take i bs ++ (get_or bs i 0 ∷ [])) ≡ i + 1 = length-append (take i bs) (get_or bs i 0 ∷ []) ∙ omega (arith, length-take-le i bs s.within) in
-      let w = written_more s.wrote (omega (arith, s.room, long)) (stored_1 m (at + i) (get_or bs i 0) (omega (arith, s.room, copy_long))) in
-      record { within = omega arith; room = s.room; wrote = record { wrote = rw e w.wrote; past = rw e (omega (arith, long)) } }
-
-  pub copy_end : length bs ≤ i → Written bs l m at (at + i)
-  copy_end h = rw (take_all i bs h) at s.wrote
+-- a run of bytes, copied at once
+pub written_part : (l bs : List ℕ) (at : ℕ) {ys : List ℕ} → ys ≡ bs → at + length bs ≤ length l → Written bs l (put_mid at (at + length bs - at) l ys) at (at + length bs)
+unfolding splice
+written_part l bs at y h = record { wrote = ap₂ (λ (b m : List ℕ). take at l ++ (b ++ m)) y (Post-is at (at + length bs) l (omega arith)); past = refl }
 
 -- ---- the wires that stay
 
@@ -75,11 +54,10 @@ module _ {wires : List ℕ} {n at size : ℕ} (K : KeepsAll wires n at size) whe
   kept_bytes actions [] = refl
   kept_bytes actions (w ∷ ws) = ap (λ (l : List ℕ). each wire_bytes (kept_wire actions w) ++ l) (kept_bytes actions ws) ∙ sym (each_append wire_bytes (kept_wire actions w) (kept_wires actions ws))
 
-  pub kept_each : (actions : List ℕ) → each (λ i. each wire_bytes (kept_wire actions (get_or (wires_of wires) i no_wire))) (up_to (length wires / 7)) ≡ each wire_bytes (kept_wires actions (wires_of wires))
+  pub kept_each : (actions : List ℕ) → each (λ i. each wire_bytes (kept_wire actions (get_or (wires_of wires) i no_wire))) (up_to (length (wires_of wires))) ≡ each wire_bytes (kept_wires actions (wires_of wires))
   kept_each actions =
-      ap (λ (k : ℕ). each (λ i. each wire_bytes (kept_wire actions (get_or (wires_of wires) i no_wire))) (up_to k)) (sym (wires_length wires))
-      ∙ (by_number (λ w. each wire_bytes (kept_wire actions w)) (wires_of wires) (length (wires_of wires)) (omega arith)
-      ∙ (ap (each (λ w. each wire_bytes (kept_wire actions w))) (take_all (length (wires_of wires)) (wires_of wires) (omega arith)) ∙ kept_bytes actions (wires_of wires)))
+      by_number (λ w. each wire_bytes (kept_wire actions w)) (wires_of wires) (length (wires_of wires)) (omega arith)
+      ∙ (ap (each (λ w. each wire_bytes (kept_wire actions w))) (take_all (length (wires_of wires)) (wires_of wires) (omega arith)) ∙ kept_bytes actions (wires_of wires))
 
-  pub kept_room : (actions : List ℕ) → at + length (each (λ i. each wire_bytes (kept_wire actions (get_or (wires_of wires) i no_wire))) (up_to (length wires / 7))) ≤ size
+  pub kept_room : (actions : List ℕ) → at + length (each (λ i. each wire_bytes (kept_wire actions (get_or (wires_of wires) i no_wire))) (up_to (length (wires_of wires)))) ≤ size
   kept_room actions = rw (kept_each actions) (omega (arith, K.room, wires_size (kept_wires actions (wires_of wires)), kept_few actions (wires_of wires)))

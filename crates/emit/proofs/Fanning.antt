@@ -12,12 +12,16 @@ use Rattle.encoding.specs.Numbers.{Written}
 use Rattle.encoding.specs.Wires.{wire_bytes}
 use Rattle.encoding.proofs.Splices.{written_length, written_more}
 use Rattle.records.specs.Access.{no_wire}
+use Rattle.model.specs.Maps.{Map}
+use Rattle.model.specs.Offer.{PlanAction}
 use Rattle.model.specs.Answer.{each}
-use Rattle.state.specs.Planned.{shape_of}
 use Rattle.model.proofs.Each.{each_append, wires_size}
 use Rattle.answer.proofs.Fill.{written_none}
-use Rattle.emit.specs.Emit.{leads_to, fan, Net, Stacked, Standing, Descended, Popped, Counts, Fans}
-use Rattle.emit.proofs.Stack.{upward}
+use Rattle.emit.specs.Emit.{fan, Stacked, Standing, Descended, Popped}
+use Rattle.emit.specs.Emission.{wires_in, shape_in, targets_in, Fans}
+use Rattle.emit.specs.declared.emission.Emission.{Emission}
+use Rattle.emit.specs.declared.stack.Stack.{Stack}
+use Rattle.emit.proofs.Stacks.{upward, stack_low}
 
 pub fan_size : (e : PortRef) (ts : List PortRef) → length (fan e ts) ≡ length ts
 unfolding fan
@@ -40,79 +44,82 @@ bytes_size : (e : PortRef) (ts : List PortRef) → length (each wire_bytes (fan 
 bytes_size e ts = wires_size (fan e ts) ∙ ap (λ (k : ℕ). 7 * k) (fan_size e ts)
 
 -- `done` are written, and the wire and the stack stand for the others
-pub record Going (ws : List Wire) (n : ℕ) (actions details next : List ℕ) (source : PortRef) (ts : List PortRef) (out₀ : List ℕ) (at₀ : ℕ) (stack out : List ℕ) (left wire top past : ℕ) : Type 0 where
+pub record Going (p : Map PlanAction) (n : ℕ) (ws : List Wire) (next : List ℕ) (source : PortRef) (ts : List PortRef) (out₀ : List ℕ) (at₀ : ℕ) (stack out : List ℕ) (k wire top past : ℕ) : Type 0 where
   pub done : List PortRef
   pub rest : List PortRef
   pub split : ts ≡ done ++ rest
-  pub left_is : left ≡ length rest
+  pub done_is : k ≡ length done
   pub wrote : Written (each wire_bytes (fan source done)) out₀ out at₀ past
-  pub stands : 0 < left → Standing (shape_of ws actions details) n ws next stack top wire rest
+  pub stands : 0 < length rest → Standing p n ws next stack top wire rest
+  pub empty : length rest ≡ 0 → top ≡ 0
   pub stack_long : length stack ≡ max_wires
   pub room : at₀ + 7 * length ts ≤ length out₀
 
-abbrev pub targets_of : List Wire → ℕ → List ℕ → List ℕ → ℕ → List PortRef
-targets_of ws n actions details i = leads_to (shape_of ws actions details) n (get_or ws i no_wire).target
+pub going_start : {e : Emission} {s : Stack} {i count at size : ℕ} → Fans e s i count at size → (source : PortRef) (out : List ℕ) → size ≡ length out
+    → Going (shape_in e) e.wires.now.nodes (wires_in e) e.rewrites.now.chains.next source (targets_in e i) out at s.codes out 0 i s.height at
+unfolding fan each
+going_start {e} {s} {i} {count} {at} F source out z =
+    record {
+      done = [];
+      rest = targets_in e i;
+      split = refl;
+      done_is = refl;
+      wrote = written_none out at (omega (arith, F.room));
+      stands = λ h.
+          record {
+            rest = [];
+            within = F.within;
+            live = F.live;
+            stacked = rw F.empty.0 Stacked.bottom;
+            split = sym (append-nil _);
+            few = omega (arith, F.many, F.few);
+            stack_long = F.empty.1;
+          };
+      empty = λ h. F.empty.0;
+      stack_long = F.empty.1;
+      room = omega (arith, F.room, F.many);
+    }
 
-module _ {ws : List Wire} {n : ℕ} {actions first next stack₀ : List ℕ} {i count at₀ size : ℕ} (F : Fans ws n actions first next stack₀ i count at₀ size) where
-  pub going_start : (source : PortRef) (out₀ : List ℕ) → size ≡ length out₀ → (details : List ℕ) → Counts ws n actions details first next i count → Going ws n actions details next source (targets_of ws n actions details i) out₀ at₀ stack₀ out₀ count i 0 at₀
-  unfolding fan each
-  going_start source out₀ z details C =
-      record {
-        done = [];
-        rest = targets_of ws n actions details i;
-        split = refl;
-        left_is = C.many;
-        wrote = written_none out₀ at₀ (omega (arith, F.room));
-        stands = λ h.
-            record {
-              rest = [];
-              within = F.within;
-              live = C.live;
-              stacked = Stacked.bottom;
-              split = sym (append-nil _);
-              few = omega (arith, C.many, F.few);
-              stack_long = F.stack_long;
-            };
-        stack_long = F.stack_long;
-        room = omega (arith, F.room, C.many);
-      }
-
-module _ {ws : List Wire} {n : ℕ} {actions details next : List ℕ} {source : PortRef} {ts : List PortRef} {out₀ : List ℕ} {at₀ : ℕ} {stack out : List ℕ} {left wire top past : ℕ} (G : Going ws n actions details next source ts out₀ at₀ stack out left wire top past) where
+module _ {p : Map PlanAction} {n : ℕ} {ws : List Wire} {next : List ℕ} {source : PortRef} {ts : List PortRef} {out₀ : List ℕ} {at₀ : ℕ} {stack out : List ℕ} {k wire top past : ℕ} (G : Going p n ws next source ts out₀ at₀ stack out k wire top past) where
   whole : length ts ≡ length G.done + length G.rest
   whole = ap length G.split ∙ length-append G.done G.rest
 
   pub out_long : length out ≡ length out₀
   out_long = written_length G.wrote (omega (arith, G.room, whole, bytes_size source G.done))
 
-  pub leaf_room : 0 < left → past + 7 ≤ length out
-  leaf_room h = omega (arith, G.room, whole, bytes_size source G.done, G.wrote.past, G.left_is, out_long)
+  pub some_rest : k < length ts → 0 < length G.rest
+  some_rest h = omega (arith, whole, G.done_is)
 
-  pub going_on : {first : List ℕ} → Net ws n actions details first next → (h : 0 < left) {stack₁ stack₂ out' : List ℕ} {top₁ wire₁ past' wire₂ top₂ : ℕ} → Descended (shape_of ws actions details) n ws next stack₁ top₁ wire₁ G.rest
+  pub leaf_room : k < length ts → past + 7 ≤ length out
+  leaf_room h = omega (arith, G.room, whole, bytes_size source G.done, G.wrote.past, G.done_is, out_long)
+
+  pub going_on : length ws ≤ max_wires → {stack₁ stack₂ out' : List ℕ} {top₁ wire₁ past' wire₂ top₂ : ℕ} → Descended p n ws next stack₁ top₁ wire₁ G.rest
       → Written (wire_bytes (record { source = source; target = (get_or ws wire₁ no_wire).target })) out out' past past' → Popped next stack₁ stack₂ top₁ wire₂ top₂ → length stack₂ ≡ max_wires
-      → Going ws n actions details next source ts out₀ at₀ stack₂ out' (left - 1) wire₂ top₂ past'
-  going_on N h {stack₁} {stack₂} {out'} {top₁} {wire₁} {past'} {wire₂} {top₂} D W P l =
+      → Going p n ws next source ts out₀ at₀ stack₂ out' (k + 1) wire₂ top₂ past'
+  going_on w {stack₁} {stack₂} {out'} {top₁} {wire₁} {past'} {wire₂} {top₂} D W P l =
       let t : PortRef = (get_or ws wire₁ no_wire).target in
       let few : length D.rest ≤ max_wires = omega (arith, D.few, ap length D.split) in
-      let U = upward N.bounded.few_wires D.stack_long few D.stacked in
+      let U = upward w D.stack_long few D.stacked in
       let fits : at₀ + length (each wire_bytes (fan source G.done) ++ wire_bytes (record { source = source; target = t })) ≤ length out₀ =
       omega (arith, G.room, whole, ap length (fan_bytes source G.done t), bytes_size source (G.done ++ (t ∷ [])), length-append G.done (t ∷ []), ap length D.split) in
       record {
         done = G.done ++ (t ∷ []);
         rest = D.rest;
         split = G.split ∙ (ap (λ (l : List PortRef). G.done ++ l) D.split ∙ sym (append_assoc G.done (t ∷ []) D.rest));
-        left_is = omega (arith, G.left_is, ap length D.split);
+        done_is = omega (arith, G.done_is, length-append G.done (t ∷ []));
         wrote = rw (fan_bytes source G.done t) (written_more G.wrote fits W);
-        stands = λ z. U.up (omega (arith, G.left_is, ap length D.split)) stack₂ wire₂ top₂ P;
+        stands = λ z. U.up z stack₂ wire₂ top₂ P;
+        empty = λ z. (P.same (omega (arith, stack_low p n ws next D.stacked, z))).1;
         stack_long = l;
         room = G.room;
       }
 
-  pub going_end : left ≡ 0 → Written (each wire_bytes (fan source ts)) out₀ out at₀ past
-  going_end e = finish G.rest (sym G.left_is ∙ e) G.split
+  pub going_end : length ts ≤ k → Written (each wire_bytes (fan source ts)) out₀ out at₀ past × (top ≡ 0)
+  going_end e = finish G.rest (omega (arith, whole, G.done_is)) G.split G.empty
     where
-      finish : (rest : List PortRef) → length rest ≡ 0 → ts ≡ G.done ++ rest → Written (each wire_bytes (fan source ts)) out₀ out at₀ past
-      finish [] z s = rw (s ∙ append-nil G.done) G.wrote
-      finish (r ∷ rs) z s = absurd (omega arith)
+      finish : (rest : List PortRef) → length rest ≡ 0 → ts ≡ G.done ++ rest → (length rest ≡ 0 → top ≡ 0) → Written (each wire_bytes (fan source ts)) out₀ out at₀ past × (top ≡ 0)
+      finish [] z s h = (rw (s ∙ append-nil G.done) G.wrote, h z)
+      finish (r ∷ rs) z s h = absurd (omega arith)
 
 -- a pop keeps the stack's length
 pub popped_long : {next stack stack' : List ℕ} {top wire r : ℕ} → length stack ≡ max_wires → Popped next stack stack' top wire r → length stack' ≡ max_wires

@@ -1,4 +1,4 @@
-pub mod Stack
+pub mod Stacks
 pub mod Fanning
 pub mod Nets
 pub mod SharedChains

@@ -1,6 +1,6 @@
 -- A Branch whose only live wire enters another leads to what that one leads to, so the two may share a chain.
+use Rattle.std.specs.Prelude.{Option, Some}
 use mathlib.Core.Path.{◌≡◌, refl, sym, ap, ◌∙◌, subst}
-use mathlib.Core.Option.{Option, some}
 use mathlib.Core.List.{List, [], ◌∷◌, ◌++◌, append-nil}
 use Prim.Native.Nat.{ℕ, zero, suc, ◌+◌, ◌-◌, ◌≤◌, ◌<◌}
 use native.Mathlib.Omega.{arith}
@@ -11,7 +11,7 @@ use Rattle.ir.specs.Limits.{max_nodes}
 use Rattle.ir.specs.declared.PortRef.{PortRef}
 use Rattle.ir.specs.declared.Wire.{Wire}
 use Rattle.records.specs.Access.{no_wire}
-use Rattle.wire_index.proofs.Chains.{chain_one, chain_code}
+use Rattle.wire_index.proofs.Walks.{chain_one, chain_code}
 use Rattle.model.specs.Maps.{Map, All}
 use Rattle.model.specs.Offer.{PlanAction}
 use Rattle.model.specs.Rewrite.{collect, arrive, reach}
@@ -20,21 +20,21 @@ use Rattle.model.proofs.TargetCounts.{both_some, reach_more, collect_more}
 use Rattle.state.specs.Planned.{shape_at, shape_of}
 use Rattle.rewrite.proofs.Linking.{within}
 use Rattle.emit.specs.Emit.{leads_to, Live, exec_of, Expands, Net, Starts, Entered, Shared, Branches, Ready}
-use Rattle.emit.proofs.Stack.{enter}
+use Rattle.emit.proofs.Stacks.{enter}
 
-collect_one : (f : Wire → Option (List PortRef)) (u : Wire) (ys : List PortRef) → collect f (u ∷ []) ≡ some ys → f u ≡ some ys
+collect_one : (f : Wire → Option (List PortRef)) (u : Wire) (ys : List PortRef) → collect f (u ∷ []) ≡ Some ys → f u ≡ Some ys
 unfolding collect
 collect_one f u ys q =
-    let (xs, zs, a, b, s) = both_some (f u) (some []) ys q in
+    let (xs, zs, a, b, s) = both_some (f u) (Some []) ys q in
     let z : zs ≡ [] = cc in
-    a ∙ ap some (sym (s ∙ (ap (λ (l : List PortRef). xs ++ l) z ∙ append-nil xs)))
+    a ∙ ap Some (sym (s ∙ (ap (λ (l : List PortRef). xs ++ l) z ∙ append-nil xs)))
 
 module _ (ws : List Wire) (n : ℕ) (actions details first next : List ℕ) (N : Net ws n actions details first next) where
   abbrev p : Map PlanAction
   p = shape_of ws actions details
 
   -- a planned Branch takes a step
-  branch_steps : (k t : ℕ) (ys : List PortRef) → get_or actions t 0 ≡ 3 → reach p k (exec_of t) ≡ some ys → (j : ℕ) × (k ≡ suc j)
+  branch_steps : (k t : ℕ) (ys : List PortRef) → get_or actions t 0 ≡ 3 → reach p k (exec_of t) ≡ Some ys → (j : ℕ) × (k ≡ suc j)
   unfolding reach arrive shape_of shape_at
   branch_steps zero t ys a q = none_some ys (rw a at q)
   branch_steps (suc j) t ys a q = (j, refl)
@@ -59,10 +59,10 @@ module _ (ws : List Wire) (n : ℕ) (actions details first next : List ℕ) (N :
       Y : Expands p n ws next t (get_or first t 0)
       Y = N.expands t branch (subst (λ (x : PortRef). 0 < length (leads_to p n x)) at_exec live.some_target)
 
-      leads : (k : ℕ) (ys : List PortRef) → k ≤ n → reach p (suc k) (exec_of b) ≡ some ys → collect (λ w. reach p k w.target) Y.out ≡ some ys
+      leads : (k : ℕ) (ys : List PortRef) → k ≤ n → reach p (suc k) (exec_of b) ≡ Some ys → collect (λ w. reach p k w.target) Y.out ≡ Some ys
       leads k ys l q =
-          let r : reach p k w.target ≡ some ys = collect_one (λ w. reach p k w.target) w ys (subst (λ (us : List Wire). collect (λ w. reach p k w.target) us ≡ some ys) only (X.leads k ys l q)) in
-          let s : reach p k (exec_of t) ≡ some ys = ap (reach p k) (sym at_exec) ∙ r in
+          let r : reach p k w.target ≡ Some ys = collect_one (λ w. reach p k w.target) w ys (subst (λ (us : List Wire). collect (λ w. reach p k w.target) us ≡ Some ys) only (X.leads k ys l q)) in
+          let s : reach p k (exec_of t) ≡ Some ys = ap (reach p k) (sym at_exec) ∙ r in
           let (j, f) = branch_steps k t ys branch s in
           collect_more (λ w. reach p j w.target) (λ w. reach p k w.target) (λ u xs z. reach_more p j k (omega arith) u.target xs z) Y.out ys
           (Y.leads j ys (omega arith) (ap (λ (m : ℕ). reach p m (exec_of t)) (sym f) ∙ s))

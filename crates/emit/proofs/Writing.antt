@@ -1,9 +1,10 @@
 -- What each wire becomes, and what all of them become.
+use Rattle.std.specs.Prelude.{Option, None, Some}
 use mathlib.Core.Path.{◌≡◌, refl, sym, ap, ap₂, ◌∙◌, subst}
 use mathlib.Core.Bool.{Bool, true, false, cond}
-use mathlib.Core.Option.{Option, none, some}
 use mathlib.Core.List.{List, [], ◌∷◌, ◌++◌, append-nil}
-use Prim.Native.Nat.{ℕ, zero, suc, ◌+◌, ◌*◌, ◌/◌, ◌≤◌, ◌<◌, min}
+use mathlib.Core.Logic.{◌⊎◌, inl, inr}
+use Prim.Native.Nat.{ℕ, zero, suc, ◌+◌, ◌*◌, ◌≤◌, ◌<◌, min}
 use native.Mathlib.Omega.{arith}
 use lib.Dec.{ltb}
 use lib.ListN.{length, get_or, length-append}
@@ -14,8 +15,7 @@ use Rattle.ir.specs.declared.PortRef.{PortRef}
 use Rattle.ir.specs.declared.Wire.{Wire}
 use Rattle.encoding.specs.Numbers.{Written}
 use Rattle.encoding.specs.Wires.{wire_bytes}
-use Rattle.records.specs.Access.{no_wire, wires_of}
-use Rattle.records.proofs.Runs.{wires_length}
+use Rattle.records.specs.Access.{no_wire}
 use Rattle.model.specs.Maps.{Map, up_to}
 use Rattle.model.specs.Offer.{PlanAction}
 use Rattle.model.specs.Answer.{each}
@@ -29,49 +29,49 @@ use Rattle.answer.proofs.Fill.{written_none}
 use Rattle.rewrite.specs.Counts.{no_count, entry, count_in}
 use Rattle.rewrite.specs.Sources.{origin_of, Traced}
 use Rattle.rewrite.specs.declared.Origin.{Origin}
-use Rattle.emit.specs.Emit.{or_nil, leads_to, becomes, fan, Live, Shared, Ready, Prepared}
+use Rattle.emit.specs.Emit.{or_nil, leads_to, becomes, rewritten, fan, Live, Shared, Ready, Prepared}
 use Rattle.emit.proofs.Fanning.{fan_size}
-use Rattle.emit.proofs.Stack.{leaf}
+use Rattle.emit.proofs.Stacks.{leaf}
 use Rattle.emit.proofs.Nets.{entry_zero, net}
 
 -- ---- one wire
 
 -- what the wire becomes, by what its target leads to and where its source comes to
 pub data Becomes (p : Map PlanAction) (n : ℕ) (w : Wire) : Type 0 where
-  nothing : reach p n w.target ≡ some [] → becomes p n w ≡ [] → Becomes p n w
+  nothing : reach p n w.target ≡ Some [] → becomes p n w ≡ [] → Becomes p n w
   dropped : Live p n w → follow p n w.source ≡ drops → becomes p n w ≡ [] → Becomes p n w
   wires : Live p n w → (e : PortRef) → follow p n w.source ≡ from e → becomes p n w ≡ fan e (leads_to p n w.target) → Becomes p n w
 
-pub becomes_by : (p : Map PlanAction) (n : ℕ) (w : Wire) → rewrite_wire p n w ≡ some (becomes p n w) → Becomes p n w
+pub becomes_by : (p : Map PlanAction) (n : ℕ) (w : Wire) → rewrite_wire p n w ≡ Some (becomes p n w) → Becomes p n w
 unfolding rewrite_wire joined becomes leads_to fan
 becomes_by p n w q = go (reach p n w.target) (follow p n w.source) refl refl
   where
-    live : (t : PortRef) (ts : List PortRef) → reach p n w.target ≡ some (t ∷ ts) → Live p n w
-    live t ts r = record { ends = r ∙ ap some (sym (ap or_nil r)); some_target = omega (arith, ap length (ap or_nil r)) }
+    live : (t : PortRef) (ts : List PortRef) → reach p n w.target ≡ Some (t ∷ ts) → Live p n w
+    live t ts r = record { ends = r ∙ ap Some (sym (ap or_nil r)); some_target = omega (arith, ap length (ap or_nil r)) }
 
     go : (o : Option (List PortRef)) (s : Source) → reach p n w.target ≡ o → follow p n w.source ≡ s → Becomes p n w
-    go none s r f = none_some _ (sym (ap (λ (o : Option (List PortRef)). joined o (follow p n w.source)) r) ∙ q)
-    go (some []) s r f = Becomes.nothing r (ap (λ (o : Option (List PortRef)). or_nil (joined o (follow p n w.source))) r)
-    go (some (t ∷ ts)) cycles r f = none_some _ (sym (ap₂ joined r f) ∙ q)
-    go (some (t ∷ ts)) drops r f = Becomes.dropped (live t ts r) f (ap or_nil (ap₂ joined r f))
-    go (some (t ∷ ts)) (from e) r f = Becomes.wires (live t ts r) e f (ap or_nil (ap₂ joined r f) ∙ ap (λ (o : Option (List PortRef)). fan e (or_nil o)) (sym r))
+    go None s r f = none_some _ (sym (ap (λ (o : Option (List PortRef)). joined o (follow p n w.source)) r) ∙ q)
+    go (Some []) s r f = Becomes.nothing r (ap (λ (o : Option (List PortRef)). or_nil (joined o (follow p n w.source))) r)
+    go (Some (t ∷ ts)) cycles r f = none_some _ (sym (ap₂ joined r f) ∙ q)
+    go (Some (t ∷ ts)) drops r f = Becomes.dropped (live t ts r) f (ap or_nil (ap₂ joined r f))
+    go (Some (t ∷ ts)) (from e) r f = Becomes.wires (live t ts r) e f (ap or_nil (ap₂ joined r f) ∙ ap (λ (o : Option (List PortRef)). fan e (or_nil o)) (sym r))
 
 -- ---- all wires
 
 module _ (p : Map PlanAction) (n : ℕ) where
   -- each wire's rewriting ends, and all that they become is what the wires become
-  ends_each : (ws : List Wire) (zs : List Wire) → collect (rewrite_wire p n) ws ≡ some zs → (i : ℕ) → i < length ws → (rewrite_wire p n (get_or ws i no_wire) ≡ some (becomes p n (get_or ws i no_wire))) × (length (becomes p n (get_or ws i no_wire)) ≤ length zs)
+  ends_each : (ws : List Wire) (zs : List Wire) → collect (rewrite_wire p n) ws ≡ Some zs → (i : ℕ) → i < length ws → (rewrite_wire p n (get_or ws i no_wire) ≡ Some (becomes p n (get_or ws i no_wire))) × (length (becomes p n (get_or ws i no_wire)) ≤ length zs)
   unfolding collect becomes
   ends_each [] zs q i l = absurd (omega arith)
   ends_each (w ∷ ws) zs q i l =
       let (xs, ys, a, b, s) = both_some (rewrite_wire p n w) (collect (rewrite_wire p n) ws) zs q in
       go xs ys a s (ends_each ws ys b) i l
     where
-      go : (xs ys : List Wire) → rewrite_wire p n w ≡ some xs → zs ≡ xs ++ ys → ((i : ℕ) → i < length ws → (rewrite_wire p n (get_or ws i no_wire) ≡ some (or_nil (rewrite_wire p n (get_or ws i no_wire)))) × (length (or_nil (rewrite_wire p n (get_or ws i no_wire))) ≤ length ys)) → (i : ℕ) → i < suc (length ws) → (rewrite_wire p n (get_or (w ∷ ws) i no_wire) ≡ some (or_nil (rewrite_wire p n (get_or (w ∷ ws) i no_wire)))) × (length (or_nil (rewrite_wire p n (get_or (w ∷ ws) i no_wire))) ≤ length zs)
-      go xs ys a s ih zero l = (a ∙ ap some (sym (ap or_nil a)), omega (arith, ap length (ap or_nil a), ap length s, length-append xs ys))
+      go : (xs ys : List Wire) → rewrite_wire p n w ≡ Some xs → zs ≡ xs ++ ys → ((i : ℕ) → i < length ws → (rewrite_wire p n (get_or ws i no_wire) ≡ Some (or_nil (rewrite_wire p n (get_or ws i no_wire)))) × (length (or_nil (rewrite_wire p n (get_or ws i no_wire))) ≤ length ys)) → (i : ℕ) → i < suc (length ws) → (rewrite_wire p n (get_or (w ∷ ws) i no_wire) ≡ Some (or_nil (rewrite_wire p n (get_or (w ∷ ws) i no_wire)))) × (length (or_nil (rewrite_wire p n (get_or (w ∷ ws) i no_wire))) ≤ length zs)
+      go xs ys a s ih zero l = (a ∙ ap Some (sym (ap or_nil a)), omega (arith, ap length (ap or_nil a), ap length s, length-append xs ys))
       go xs ys a s ih (suc i) l = let r = ih i (omega arith) in (r.0, omega (arith, r.1, ap length s, length-append xs ys))
 
-  bytes_all : (ws : List Wire) (zs : List Wire) → collect (rewrite_wire p n) ws ≡ some zs → each (λ w. each wire_bytes (becomes p n w)) ws ≡ each wire_bytes zs
+  bytes_all : (ws : List Wire) (zs : List Wire) → collect (rewrite_wire p n) ws ≡ Some zs → each (λ w. each wire_bytes (becomes p n w)) ws ≡ each wire_bytes zs
   unfolding collect becomes each
   bytes_all [] zs q = let z : [] ≡ zs = cc in ap (each wire_bytes) z
   bytes_all (w ∷ ws) zs q =
@@ -98,7 +98,7 @@ module _ {ws : List Wire} {n : ℕ} {actions details sources counts first next :
   abbrev pub bytes_of_wire : ℕ → List ℕ
   bytes_of_wire i = each wire_bytes (becomes p n (get_or ws i no_wire))
 
-  pub wire_ends : (i : ℕ) → i < length ws → rewrite_wire p n (get_or ws i no_wire) ≡ some (becomes p n (get_or ws i no_wire))
+  pub wire_ends : (i : ℕ) → i < length ws → rewrite_wire p n (get_or ws i no_wire) ≡ Some (becomes p n (get_or ws i no_wire))
   unfolding rewrite_wires
   wire_ends i l = (ends_each p n ws whole R.ends i l).0
 
@@ -111,11 +111,11 @@ module _ {ws : List Wire} {n : ℕ} {actions details sources counts first next :
   all_bytes = by_number (λ w. each wire_bytes (becomes p n w)) ws (length ws) (omega arith) ∙ (ap (each (λ w. each wire_bytes (becomes p n w))) (take_all (length ws) ws (omega arith)) ∙ bytes_all p n ws whole R.ends)
 
 -- a count beside the targets
-pub count_is : (c : ℕ) (xs : List PortRef) → entry c ≡ capped_length (some xs) → length xs ≤ max_wires → c ≡ length xs
+pub count_is : (c : ℕ) (xs : List PortRef) → entry c ≡ capped_length (Some xs) → length xs ≤ max_wires → c ≡ length xs
 unfolding entry capped_length cap
 count_is c xs e l = go (ltb c no_count) e
   where
-    go : (b : Bool) → cond b (some c) none ≡ some (min (length xs) 4097) → c ≡ length xs
+    go : (b : Bool) → cond b (Some c) None ≡ Some (min (length xs) 4097) → c ≡ length xs
     go true e = let z : c ≡ min (length xs) 4097 = cc in omega arith
     go false e = none_some _ e
 
@@ -131,7 +131,7 @@ module _ {ws : List Wire} {n : ℕ} {actions details sources counts first next :
   by : Becomes q n w
   by = becomes_by q n w (wire_ends R i within)
 
-  counted : (c : ℕ) → c ≡ count_in actions counts w.target → (xs : List PortRef) → reach q n w.target ≡ some xs → entry c ≡ capped_length (some xs)
+  counted : (c : ℕ) → c ≡ count_in actions counts w.target → (xs : List PortRef) → reach q n w.target ≡ Some xs → entry c ≡ capped_length (Some xs)
   counted c e xs r = ap entry e ∙ (R.targets.right w.target ∙ ap capped_length r)
 
   -- a count of 0: nothing
@@ -146,7 +146,7 @@ module _ {ws : List Wire} {n : ℕ} {actions details sources counts first next :
           absurd (omega (arith, l.some_target, ap length k))
 
   -- what the wire's source comes to, as the code says it
-  pub origin_cycles : {X : Type 0} (c : ℕ) → c ≡ count_in actions counts w.target → (c ≡ 0 → ⊥) → origin_of (follow q n w.source) ≡ Origin.Cycles → X
+  origin_cycles : {X : Type 0} (c : ℕ) → c ≡ count_in actions counts w.target → (c ≡ 0 → ⊥) → origin_of (follow q n w.source) ≡ Origin.Cycles → X
   unfolding origin_of
   origin_cycles {X} c e z o = go by
     where
@@ -160,7 +160,7 @@ module _ {ws : List Wire} {n : ℕ} {actions details sources counts first next :
       go (Becomes.dropped l f b) = absurd (omega (arith, ap code (sym (ap origin_of f) ∙ o)))
       go (Becomes.wires l s f b) = absurd (omega (arith, ap code (sym (ap origin_of f) ∙ o)))
 
-  pub origin_drops : origin_of (follow q n w.source) ≡ Origin.Drops → becomes q n w ≡ []
+  origin_drops : origin_of (follow q n w.source) ≡ Origin.Drops → becomes q n w ≡ []
   unfolding origin_of
   origin_drops o = go by
     where
@@ -173,6 +173,11 @@ module _ {ws : List Wire} {n : ℕ} {actions details sources counts first next :
       go (Becomes.nothing r b) = b
       go (Becomes.dropped l f b) = b
       go (Becomes.wires l s f b) = absurd (omega (arith, ap code (sym (ap origin_of f) ∙ o)))
+
+  -- .. to none
+  pub none_from : (c : ℕ) → c ≡ count_in actions counts w.target → (c ≡ 0 → ⊥) → {o : Origin} → origin_of (follow q n w.source) ≡ o → (o ≡ Origin.Cycles) ⊎ (o ≡ Origin.Drops) → becomes q n w ≡ []
+  none_from c e z f (inl h) = origin_cycles c e z (f ∙ h)
+  none_from c e z f (inr h) = origin_drops (f ∙ h)
 
   -- the wires from a source
   pub record Fanned (c : ℕ) (s : PortRef) : Type 0 where
@@ -212,8 +217,8 @@ module _ {ws : List Wire} {n : ℕ} {actions details sources counts first next :
     unfolding count_in
     one = rw kept refl
 
-    pub kept_cycles : {X : Type 0} → origin_of (follow q n w.source) ≡ Origin.Cycles → X
-    kept_cycles o = origin_cycles 1 one (λ z. omega arith) o
+    pub kept_none : {o : Origin} → origin_of (follow q n w.source) ≡ o → (o ≡ Origin.Cycles) ⊎ (o ≡ Origin.Drops) → becomes q n w ≡ []
+    kept_none = none_from 1 one (λ z. omega arith)
 
     pub kept_from : (s : PortRef) → origin_of (follow q n w.source) ≡ Origin.From s → becomes q n w ≡ record { source = s; target = w.target } ∷ []
     unfolding fan
@@ -229,18 +234,14 @@ pub written_nothing : {zs : List Wire} {out : List ℕ} {at : ℕ} → zs ≡ []
 unfolding each
 written_nothing {zs} {out} {at} e l = rw e (written_none out at l)
 
--- ---- all wires of a run of records
+-- ---- all wires
 
-module _ (r : List ℕ) {n : ℕ} {actions details sources counts first next : List ℕ} (R : Prepared (wires_of r) n actions details sources counts first next) where
-  same : each (λ i. each wire_bytes (becomes (shape_of (wires_of r) actions details) n (get_or (wires_of r) i no_wire))) (up_to (length r / 7)) ≡ each wire_bytes (or_nil (rewrite_wires (shape_of (wires_of r) actions details) n (wires_of r)))
-  same = ap (λ (k : ℕ). each (λ i. each wire_bytes (becomes (shape_of (wires_of r) actions details) n (get_or (wires_of r) i no_wire))) (up_to k)) (sym (wires_length r)) ∙ all_bytes R
+module _ {ws : List Wire} {n : ℕ} {actions details sources counts first next : List ℕ} (R : Prepared ws n actions details sources counts first next) where
+  pub whole_room : (at size : ℕ) → at + 7 * length (rewritten ws n actions details) ≤ size → at + length (each (λ i. each wire_bytes (becomes (shape_of ws actions details) n (get_or ws i no_wire))) (up_to (length ws))) ≤ size
+  whole_room at size h = rw (all_bytes R) (omega (arith, h, wires_size (rewritten ws n actions details)))
 
-  pub whole_room : (at size : ℕ) → at + 7 * length (or_nil (rewrite_wires (shape_of (wires_of r) actions details) n (wires_of r))) ≤ size → at + length (each (λ i. each wire_bytes (becomes (shape_of (wires_of r) actions details) n (get_or (wires_of r) i no_wire))) (up_to (length r / 7))) ≤ size
-  whole_room at size h = rw same (omega (arith, h, wires_size (or_nil (rewrite_wires (shape_of (wires_of r) actions details) n (wires_of r)))))
-
-  pub whole_written : {before after : List ℕ} {at past : ℕ} → Written (each (λ i. each wire_bytes (becomes (shape_of (wires_of r) actions details) n (get_or (wires_of r) i no_wire))) (up_to (length r / 7))) before after at past
-      → Written (each wire_bytes (or_nil (rewrite_wires (shape_of (wires_of r) actions details) n (wires_of r)))) before after at past
-  whole_written w = rw same at w
+  pub whole_written : {before after : List ℕ} {at past : ℕ} → Written (each (λ i. each wire_bytes (becomes (shape_of ws actions details) n (get_or ws i no_wire))) (up_to (length ws))) before after at past → Written (each wire_bytes (rewritten ws n actions details)) before after at past
+  whole_written w = rw (all_bytes R) at w
 
 -- what `origin` reads
 pub traced : {ws : List Wire} {n : ℕ} {actions details sources counts first next : List ℕ} → Prepared ws n actions details sources counts first next → Traced ws actions sources

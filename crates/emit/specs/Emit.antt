@@ -1,6 +1,5 @@
 -- What the writing of the rewritten wires goes by.
-use Rattle.std.specs.Prelude.{ℕ, suc, ◌+◌, ◌-◌, ◌*◌, ◌≤◌, ◌<◌, ◌≡◌, List, [], ◌∷◌, ◌++◌, map, length, get_or, set}
-use Rattle.std.proofs.Math.Option.{Option, none, some}
+use Rattle.std.specs.Prelude.{ℕ, suc, ◌+◌, ◌-◌, ◌*◌, ◌≤◌, ◌<◌, ◌≡◌, List, [], ◌∷◌, ◌++◌, map, length, get_or, set, Option, None, Some}
 use Rattle.ir.specs.Limits.{max_nodes, max_wires}
 use Rattle.ir.specs.Ports.{exec}
 use Rattle.ir.specs.declared.PortRef.{PortRef}
@@ -19,8 +18,8 @@ use Rattle.rewrite.specs.Linked.{Within}
 use Rattle.rewrite.specs.Rewritable.{Rewritable}
 
 abbrev pub or_nil : {A : Type 0} → Option (List A) → List A
-or_nil none = []
-or_nil (some xs) = xs
+or_nil None = []
+or_nil (Some xs) = xs
 
 -- the unplanned targets that a wire into e leads to
 unfoldable pub leads_to : Map PlanAction → ℕ → PortRef → List PortRef
@@ -37,7 +36,7 @@ becomes p n w = or_nil (rewrite_wire p n w)
 
 -- a wire's rewriting ends, and leads to some unplanned target
 pub record Live (p : Map PlanAction) (n : ℕ) (w : Wire) : Type 0 where
-  pub ends : reach p n w.target ≡ some (leads_to p n w.target)
+  pub ends : reach p n w.target ≡ Some (leads_to p n w.target)
   pub some_target : 0 < length (leads_to p n w.target)
 
 abbrev pub exec_of : ℕ → PortRef
@@ -48,7 +47,7 @@ pub record Expands (p : Map PlanAction) (n : ℕ) (ws : List Wire) (next : List 
   pub out : List Wire
   pub chain : Chain ws next code out
   pub live : All (Live p n) out
-  pub leads : (k : ℕ) (ys : List PortRef) → k ≤ n → reach p (suc k) (exec_of b) ≡ some ys → collect (λ w. reach p k w.target) out ≡ some ys
+  pub leads : (k : ℕ) (ys : List PortRef) → k ≤ n → reach p (suc k) (exec_of b) ≡ Some ys → collect (λ w. reach p k w.target) out ≡ Some ys
 
 -- the plan's shape and the chains of its Branches that lead to some unplanned target
 pub record Net (ws : List Wire) (n : ℕ) (actions details first next : List ℕ) : Type 0 where
@@ -127,31 +126,9 @@ pub record Popped (next stack stack' : List ℕ) (top wire r : ℕ) : Type 0 whe
   pub rest : 0 < top → Pushed stack stack' (top - 1) (get_or next wire 0) r
   pub same : top ≡ 0 → (stack' ≡ stack) × (r ≡ 0)
 
--- what the way down from wire i needs
-pub record Descends (ws : List Wire) (n : ℕ) (actions first next stack : List ℕ) (top i : ℕ) : Type 0 where
-  pub details : List ℕ
-  pub net : Net ws n actions details first next
-  pub ts : List PortRef
-  pub stands : Standing (shape_of ws actions details) n ws next stack top i ts
-
 -- wires from one source
 unfoldable pub fan : PortRef → List PortRef → List Wire
 fan e ts = map (λ t. record { source = e; target = t }) ts
-
--- wire i leads to `count` targets by a plan with these details
-pub record Counts (ws : List Wire) (n : ℕ) (actions details first next : List ℕ) (i count : ℕ) : Type 0 where
-  pub net : Net ws n actions details first next
-  pub live : Live (shape_of ws actions details) n (get_or ws i no_wire)
-  pub many : count ≡ length (leads_to (shape_of ws actions details) n (get_or ws i no_wire).target)
-
--- what the writing of a wire's targets needs: they are so many, and there is room for their wires from `at` on
-pub record Fans (ws : List Wire) (n : ℕ) (actions first next stack : List ℕ) (i count at size : ℕ) : Type 0 where
-  pub details : List ℕ
-  pub counts : Counts ws n actions details first next i count
-  pub within : i < length ws
-  pub few : count ≤ max_wires
-  pub stack_long : length stack ≡ max_wires
-  pub room : at + 7 * count ≤ size
 
 -- ---- all wires
 
@@ -164,7 +141,7 @@ pub record Ready (ws : List Wire) (n : ℕ) (actions details sources counts firs
   pub bounded : Bounded ws n
   pub shaped : Shaped ws n actions details
   pub rewritable : Rewritable ws n actions details sources counts first next
-  pub ends : rewrite_wires (shape_of ws actions details) n ws ≡ some (or_nil (rewrite_wires (shape_of ws actions details) n ws))
+  pub ends : rewrite_wires (shape_of ws actions details) n ws ≡ Some (or_nil (rewrite_wires (shape_of ws actions details) n ws))
   pub few : length (or_nil (rewrite_wires (shape_of ws actions details) n ws)) ≤ max_wires
 
 -- the same with the chains that the emission walks
@@ -172,23 +149,10 @@ pub record Prepared (ws : List Wire) (n : ℕ) (actions details sources counts f
   pub net : Net ws n actions details first next
   pub origins : Sources ws n actions details sources
   pub targets : target-counts.Counts ws n actions details counts
-  pub ends : rewrite_wires (shape_of ws actions details) n ws ≡ some (or_nil (rewrite_wires (shape_of ws actions details) n ws))
+  pub ends : rewrite_wires (shape_of ws actions details) n ws ≡ Some (or_nil (rewrite_wires (shape_of ws actions details) n ws))
   pub few : length (or_nil (rewrite_wires (shape_of ws actions details) n ws)) ≤ max_wires
 
--- what the writing of wire i needs
-pub record Emits (ws : List Wire) (n : ℕ) (actions sources counts first next stack : List ℕ) (i at size : ℕ) : Type 0 where
-  pub details : List ℕ
-  pub prepared : Prepared ws n actions details sources counts first next
-  pub within : i < length ws
-  pub stack_long : length stack ≡ max_wires
-  pub room : at + 7 * length (becomes (shape_of ws actions details) n (get_or ws i no_wire)) ≤ size
-
 -- what the writing of all wires needs
-pub record EmitsEach (ws : List Wire) (n : ℕ) (actions details sources counts first next : List ℕ) (at size : ℕ) : Type 0 where
-  pub prepared : Prepared ws n actions details sources counts first next
-  pub room : at + 7 * length (or_nil (rewrite_wires (shape_of ws actions details) n ws)) ≤ size
-
--- the same with the chains that `rewrite` left
 pub record EmitsAll (ws : List Wire) (n : ℕ) (actions details sources counts first next : List ℕ) (at size : ℕ) : Type 0 where
   pub ready : Ready ws n actions details sources counts first next
   pub room : at + 7 * length (or_nil (rewrite_wires (shape_of ws actions details) n ws)) ≤ size

@@ -1,13 +1,13 @@
 -- The words of a value hold it.
 use Prim.Native.Nat.{ℕ, ◌^◌, ◌≤◌, ◌<◌}
 use mathlib.Core.Path.{◌≡◌, refl, sym, ap, ◌∙◌}
-use mathlib.Core.Bool.{Bool as Flag}
+use mathlib.Core.Bool.{Bool as Flag, true, false}
 use mathlib.Core.List.{[], ◌∷◌}
 use lib.ListN.{length}
 use lib.Dec.{T, eqb}
 use lib.IntN.{ℤ}
 use lib.Ieee.{Float as IeeeFloat, fits, of_bits, binary64}
-use mir.Val.{SFits}
+use mir.Val.{SFits, bool_byte as byte_of_flag}
 use mir.Syntax.{w64}
 use mir.Facts.{to_z-of_z}
 use mir.ValLaws.{of_z-to_z}
@@ -102,29 +102,34 @@ module _ (a b c d : ℕ) where
   unfolding held_value held_composite_or_text
   kind_held = by_kind (λ k. kind_of (held_value k a b c d) ≡ k) refl refl refl refl refl refl refl refl
 
-module _ (k a b c d : ℕ) {x y z : IeeeFloat} (p : x ≡ of_bits binary64 a) (q : y ≡ of_bits binary64 b) (r : z ≡ of_bits binary64 c) where
+module _ (k a b c d : ℕ) where
   -- the bytes of a composite
-  pub three_held : 5 < k → k ≤ 7 → three_bytes x y z ≡ value_bytes (held_composite_or_text k a b c d)
+  pub three_held : 5 < k → k ≤ 7 → three_bytes (of_bits binary64 a) (of_bits binary64 b) (of_bits binary64 c) ≡ value_bytes (held_composite_or_text k a b c d)
   unfolding held_composite_or_text
-  three_held l h = rw (p, q, r) (pick (ℕ_discrete k 6))
+  three_held l h = pick (ℕ_discrete k 6)
     where
       pick : Dec (k ≡ 6) → three_bytes (of_bits binary64 a) (of_bits binary64 b) (of_bits binary64 c) ≡ value_bytes (held_composite_or_text k a b c d)
       pick (yes e) = rw e refl
       pick (no n) = let e : k ≡ 7 = omega arith in rw e refl
 
-  pub four_held : {w : IeeeFloat} → w ≡ of_bits binary64 d → 7 < k → k < 10 → four_bytes x y z w ≡ value_bytes (held_composite_or_text k a b c d)
+  pub four_held : 7 < k → k < 10 → four_bytes (of_bits binary64 a) (of_bits binary64 b) (of_bits binary64 c) (of_bits binary64 d) ≡ value_bytes (held_composite_or_text k a b c d)
   unfolding held_composite_or_text
-  four_held t l h = rw (p, q, r, t) (pick (ℕ_discrete k 8))
+  four_held l h = pick (ℕ_discrete k 8)
     where
       pick : Dec (k ≡ 8) → four_bytes (of_bits binary64 a) (of_bits binary64 b) (of_bits binary64 c) (of_bits binary64 d) ≡ value_bytes (held_composite_or_text k a b c d)
       pick (yes e) = rw e refl
       pick (no n) = let e : k ≡ 9 = omega arith in rw e refl
 
--- three floats at least
-pub three_least : (k a b c d : ℕ) → 5 < k → k < 10 → 24 ≤ length (value_bytes (held_composite_or_text k a b c d))
-unfolding bytes_of
-three_least k a b c d l h = pick (dec_lt k 8)
-  where
-    pick : Dec (k < 8) → 24 ≤ length (value_bytes (held_composite_or_text k a b c d))
-    pick (yes s) = omega (arith, ap length (three_held k a b c d refl refl refl l (omega arith)))
-    pick (no n) = omega (arith, ap length (four_held k a b c d refl refl refl refl (omega arith) h))
+  -- three floats at least
+  pub three_least : 5 < k → k < 10 → 24 ≤ length (value_bytes (held_composite_or_text k a b c d))
+  unfolding bytes_of
+  three_least l h = pick (dec_lt k 8)
+    where
+      pick : Dec (k < 8) → 24 ≤ length (value_bytes (held_composite_or_text k a b c d))
+      pick (yes s) = omega (arith, ap length (three_held l (omega arith)))
+      pick (no n) = omega (arith, ap length (four_held (omega arith) h))
+
+-- the library's byte of a flag
+pub flag_byte : (b : Flag) → byte_of_flag b ≡ bool_byte b
+flag_byte true = refl
+flag_byte false = refl

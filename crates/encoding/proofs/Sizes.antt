@@ -1,13 +1,12 @@
--- The kinds of properties, and the sizes of composites.
+-- The kinds of properties.
 use Prim.Native.Nat.{ℕ, zero, suc, ◌≤◌, ◌<◌}
 use native.Mathlib.Omega.{arith}
 use native.Mathlib.Decide.{ℕ_discrete}
-use mathlib.Core.Path.{◌≡◌, refl, sym, ap, subst}
+use mathlib.Core.Path.{◌≡◌, refl, ap}
 use mathlib.Core.Bool.{Bool, true, false, false≢true}
 use Rattle.ir.specs.Kinds.{role_of}
 use Rattle.ir.specs.declared.Role.{Role}
 use Rattle.ir.specs.declared.Role.TheVariants.{Unlisted, Node, Wire, Property, Row, Annihilator}
-use Rattle.encoding.specs.Values.{value_size}
 
 abbrev is_property : Role → Bool
 is_property Unlisted = false
@@ -51,19 +50,3 @@ is_text_lem k e n = pick (ℕ_discrete k 12)
     pick : Dec (k ≡ 12) → k ≡ 12
     pick (yes h) = h
     pick (no h) = absurd (omega (arith, (property_kind k e).most h))
-
--- three floats, and from 08 on four
-pub record Composite (k : ℕ) : Type 0 where
-  pub three : 24 ≤ value_size k
-  pub four : 7 < k → 32 ≤ value_size k
-
-pub composite : (k : ℕ) → 5 < k → k ≤ 9 → Composite k
-composite k l h = pick (ℕ_discrete k 6) (ℕ_discrete k 7) (ℕ_discrete k 8)
-  where
-    pick : Dec (k ≡ 6) → Dec (k ≡ 7) → Dec (k ≡ 8) → Composite k
-    pick (yes e) b c = subst Composite (sym e) (record { three = omega arith; four = λ h. absurd (omega arith) })
-    pick (no a) (yes e) c = subst Composite (sym e) (record { three = omega arith; four = λ h. absurd (omega arith) })
-    pick (no a) (no b) (yes e) = subst Composite (sym e) (record { three = omega arith; four = λ h. omega arith })
-    pick (no a) (no b) (no c) =
-        let e : k ≡ 9 = omega arith in
-        subst Composite (sym e) (record { three = omega arith; four = λ h. omega arith })

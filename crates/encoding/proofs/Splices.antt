@@ -1,11 +1,14 @@
 -- Bytes written at an offset: one after the other, and read back.
-use Prim.Native.Nat.{ℕ, suc, ◌+◌, ◌≤◌, ◌<◌}
+use Prim.Native.Nat.{ℕ, ◌+◌, ◌-◌, ◌≤◌, ◌<◌}
+use borrow.Rule.Slice.PartMut.{put_mid}
 use native.Mathlib.Omega.{arith}
+use native.Mathlib.Nat.{div-div-eq-div-mul}
 use mathlib.Core.Path.{◌≡◌, refl, sym, ap, ap₂, subst, ◌∙◌}
 use mathlib.Core.List.{List, [], ◌∷◌, ◌++◌, append_assoc}
 use lib.ListN.{length, get_or, set, take, drop, length-append, length-drop, get_or-append}
 use lib.Seq.{take_at, drop-append-add, drop-drop, length-take-le, sets, sets-eq, get_or-append-add}
-use Rattle.encoding.specs.Numbers.{splice, Written}
+use Rattle.std.specs.Int.{to_le_bytes, w64}
+use Rattle.encoding.specs.Numbers.{bytes_of, splice, Written}
 
 pub splice_length : (l : List ℕ) (at : ℕ) (bs : List ℕ) → at + length bs ≤ length l → length (splice l at bs) ≡ length l
 unfolding splice
@@ -56,32 +59,17 @@ splice_at l at bs h i k =
 pub stored_1 : (l : List ℕ) (at b : ℕ) → at + 1 ≤ length l → Written (b ∷ []) l (set l at b) at (at + 1)
 stored_1 l at b h = stored l at (b ∷ []) h
 
-pub stored_3 : (l : List ℕ) (at a b c : ℕ) → at + 3 ≤ length l → Written (a ∷ b ∷ c ∷ []) l (set (set (set l at a) (at + 1) b) (at + 2) c) at (at + 3)
-stored_3 l at a b c h =
-    let e1 : at + 1 ≡ suc at = omega arith in
-    let e2 : at + 2 ≡ suc (suc at) = omega arith in
-    rw (e1, e2) (stored l at (a ∷ b ∷ c ∷ []) h)
-
-pub stored_7 : (l : List ℕ) (at a b c d e f g : ℕ) → at + 7 ≤ length l → Written (a ∷ b ∷ c ∷ d ∷ e ∷ f ∷ g ∷ []) l (set (set (set (set (set (set (set l at a) (at + 1) b) (at + 2) c) (at + 3) d) (at + 4) e) (at + 5) f) (at + 6) g) at (at + 7)
-stored_7 l at a b c d e f g h =
-    let e1 : at + 1 ≡ suc at = omega arith in
-    let e2 : at + 2 ≡ suc (suc at) = omega arith in
-    let e3 : at + 3 ≡ suc (suc (suc at)) = omega arith in
-    let e4 : at + 4 ≡ suc (suc (suc (suc at))) = omega arith in
-    let e5 : at + 5 ≡ suc (suc (suc (suc (suc at)))) = omega arith in
-    let e6 : at + 6 ≡ suc (suc (suc (suc (suc (suc at))))) = omega arith in
-    rw (e1, e2, e3, e4, e5, e6) (stored l at (a ∷ b ∷ c ∷ d ∷ e ∷ f ∷ g ∷ []) h)
-
-pub stored_8 : (l : List ℕ) (at a b c d e f g i : ℕ) → at + 8 ≤ length l → Written (a ∷ b ∷ c ∷ d ∷ e ∷ f ∷ g ∷ i ∷ []) l (set (set (set (set (set (set (set (set l at a) (at + 1) b) (at + 2) c) (at + 3) d) (at + 4) e) (at + 5) f) (at + 6) g) (at + 7) i) at (at + 8)
-stored_8 l at a b c d e f g i h =
-    let e1 : at + 1 ≡ suc at = omega arith in
-    let e2 : at + 2 ≡ suc (suc at) = omega arith in
-    let e3 : at + 3 ≡ suc (suc (suc at)) = omega arith in
-    let e4 : at + 4 ≡ suc (suc (suc (suc at))) = omega arith in
-    let e5 : at + 5 ≡ suc (suc (suc (suc (suc at)))) = omega arith in
-    let e6 : at + 6 ≡ suc (suc (suc (suc (suc (suc at))))) = omega arith in
-    let e7 : at + 7 ≡ suc (suc (suc (suc (suc (suc (suc at)))))) = omega arith in
-    rw (e1, e2, e3, e4, e5, e6, e7) (stored l at (a ∷ b ∷ c ∷ d ∷ e ∷ f ∷ g ∷ i ∷ []) h)
-
 pub same_written : {xs ys l m : List ℕ} {i j : ℕ} → xs ≡ ys → Written xs l m i j → Written ys l m i j
 same_written {l = l} {m = m} {i = i} {j = j} e w = subst (λ (bs : List ℕ). Written bs l m i j) e w
+
+-- what a write to a part leaves
+pub part_written : {bs ys : List ℕ} (l : List ℕ) (at next : ℕ) → ys ≡ bs → next ≡ at + length bs → Written bs l (put_mid at (next - at) l ys) at next
+unfolding splice
+part_written {bs} {ys} l at next e n =
+    let k : next - at ≡ length bs = omega arith in
+    record { wrote = rw (e, k) (ap (λ (t : List ℕ). take at l ++ (bs ++ t)) (drop-drop (length bs) at l)); past = n }
+
+-- the library's bytes of a number
+pub low_bytes : (x : ℕ) → to_le_bytes w64 x ≡ bytes_of 8 x
+unfolding bytes_of
+low_bytes x = simp div-div-eq-div-mul refl

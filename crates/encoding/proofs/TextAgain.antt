@@ -4,12 +4,13 @@ use native.Mathlib.Omega.{arith}
 use native.Mathlib.Numerals.{add-one}
 use native.Mathlib.Nat.{zero-add, suc-add, pow-succ', mul_assoc}
 use mathlib.Core.Path.{◌≡◌, refl, sym, ap, ap₂, ◌∙◌}
-use mathlib.Core.Bool.{Bool, true, false, ◌&&◌, false≢true}
+use mathlib.Core.Bool.{Bool, true, false}
 use mathlib.Core.List.{List, ◌∷◌, ◌++◌}
 use lib.Dec.{leb, ltb}
 use lib.ListN.{length, take, drop, length-drop}
 use lib.Seq.{drop-cons, drop-drop, take-add, length-take-le}
 use borrow.Author.Tests.{ltb-true, ltb-false, leb-true, eqb-true, lt-ltb, le-ltb}
+use Rattle.std.proofs.lemmas.Bool.{and_parts}
 use Rattle.text.specs.Text.{used_bytes, text_of, text_length, words_number}
 use Rattle.text.specs.Listed.{is_char, are_chars, text_value_size, is_listed_text}
 use Rattle.text.proofs.Lengths.{no_bytes, first_byte}
@@ -35,27 +36,19 @@ record Used (l n : ℕ) (s : List ℕ) (at : ℕ) : Type 0 where
   some : (k : ℕ) → k < n → k < l → 0 < byte s (at + k)
   none : (k : ℕ) → k < n → l ≤ k → byte s (at + k) ≡ 0
 
-and_left : (a b : Bool) → (a && b) ≡ true → a ≡ true
-and_left true b e = refl
-and_left false b e = e
-
-and_right : (a b : Bool) → (a && b) ≡ true → b ≡ true
-and_right true b e = e
-and_right false b e = absurd (false≢true e)
-
 char : (l n : ℕ) (s : List ℕ) (at : ℕ) → are_chars l n s at ≡ true → (k : ℕ) → k < n → is_char l k (byte s (at + k)) ≡ true
 unfolding are_chars
 char l zero s at e k h = absurd (omega arith)
-char l (suc n) s at e k h = pick (λ i. char l n s at (and_left (are_chars l n s at) _ e) k i) (ltb k n) refl
+char l (suc n) s at e k h = pick (λ i. char l n s at (and_parts (are_chars l n s at) _ e).0 k i) (ltb k n) refl
   where
     pick : (k < n → is_char l k (byte s (at + k)) ≡ true) → (b : Bool) → ltb k n ≡ b → is_char l k (byte s (at + k)) ≡ true
     pick f true i = f (ltb-true k n i)
-    pick f false i = let z : n ≡ k = omega (arith, ltb-false k n i) in rw z at (and_right (are_chars l n s at) (is_char l n (byte s (at + n))) e)
+    pick f false i = let z : n ≡ k = omega (arith, ltb-false k n i) in rw z at (and_parts (are_chars l n s at) (is_char l n (byte s (at + n))) e).1
 
 used : (l n : ℕ) (s : List ℕ) (at : ℕ) → are_chars l n s at ≡ true → Used l n s at
 used l n s at e =
     record {
-      some = λ k h i. omega (arith, leb-true 32 (byte s (at + k)) (and_left (leb 32 (byte s (at + k))) (leb (byte s (at + k)) 126) (rw (lt-ltb k l i) at (char l n s at e k h))));
+      some = λ k h i. omega (arith, leb-true 32 (byte s (at + k)) (and_parts (leb 32 (byte s (at + k))) (leb (byte s (at + k)) 126) (rw (lt-ltb k l i) at (char l n s at e k h))).0);
       none = λ k h i. eqb-true (byte s (at + k)) 0 (rw (le-ltb k l i) at (char l n s at e k h));
     }
 
@@ -110,8 +103,8 @@ split (suc m) n s i =
 pub text_read : (s : List ℕ) (i : ℕ) → ((k : ℕ) → byte s k < 256) → i + text_value_size ≤ length s → is_listed_text s i ≡ true → TextRead s i
 unfolding is_listed_text
 text_read s i small room e =
-    let few : byte s i ≤ 16 = leb-true (byte s i) 16 (and_left (leb (byte s i) 16) _ e) in
-    let chars : Used (byte s i) 16 s (i + 1) = used (byte s i) 16 s (i + 1) (and_right (leb (byte s i) 16) _ e) in
+    let few : byte s i ≤ 16 = leb-true (byte s i) 16 (and_parts (leb (byte s i) 16) _ e).0 in
+    let chars : Used (byte s i) 16 s (i + 1) = used (byte s i) 16 s (i + 1) (and_parts (leb (byte s i) 16) _ e).1 in
     let nine : i + 1 + 8 ≡ i + 9 = omega arith in
     let words : number_at 16 s (i + 1) ≡ words_number (u64_at s (i + 1)) (u64_at s (i + 9)) = split 8 8 s (i + 1) ∙ ap (λ (j : ℕ). u64_at s (i + 1) + 2 ^ 64 * u64_at s j) nine in
     let text : text_of (u64_at s (i + 1)) (u64_at s (i + 9)) ≡ take (byte s i) (drop (i + 1) s) = ap (used_bytes 16) (sym words) ∙ used_bytes_lem 16 (byte s i) s (i + 1) small few (omega arith) chars in

@@ -4,6 +4,10 @@ use Rattle.ir.specs.declared.PortRef.{PortRef}
 use Rattle.ir.specs.declared.Wire.{Wire}
 use Rattle.encoding.specs.Numbers.{byte, u16_at, bytes_of}
 
+-- the port of a node that stands at an offset
+abbrev pub port_ref_at : List ℕ → ℕ → PortRef
+port_ref_at s at = record { node_id = u16_at s at; port = byte s (at + 2) }
+
 -- the wire whose record stands at an offset
 abbrev pub wire_at : List ℕ → ℕ → Wire
 wire_at s at =

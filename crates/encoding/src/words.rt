@@ -1,7 +1,7 @@
 // Values as words: Ints in two's complement, floats as their bits, a Bool as 0 or 1, a text as its 16 bytes.
-ghost use Rattle.std.specs.Prelude.{◌≡◌, eqb};
+ghost use Rattle.std.specs.Prelude.{◌≡◌};
 ghost use Rattle.encoding.specs.Values.{kind_of};
-ghost use Rattle.encoding.specs.Words.{held_composite_or_text, held_value, held_by, ThreeFloats, FourFloats};
+ghost use Rattle.encoding.specs.Words.{held_composite_or_text, held_by, ThreeFloats, FourFloats};
 
 use ir::kind;
 use value::Value;
@@ -15,52 +15,56 @@ pub struct Words {
     pub d: u64,
 }
 
+impl Words {
+    pub const ZERO: Self = Words {
+        a: 0,
+        b: 0,
+        c: 0,
+        d: 0,
+    };
+}
+
 // A composite or a text.
-fn composite_or_text(kind: u8, a: u64, b: u64, c: u64, d: u64) -> Value
-    ensures { result ≡ held_composite_or_text kind a b c d }
+#[tactic(auto, unfolding(crate::specs::Words::held_composite_or_text))]
+fn composite_or_text(kind: u8, words: Words) -> Value
+    ensures { result ≡ held_composite_or_text kind words.a words.b words.c words.d }
 {
-    let x = ieee::from_bits(a);
-    let y = ieee::from_bits(b);
-    let z = ieee::from_bits(c);
-    if kind == kind::VECTOR {
-        return Value::Vector { x, y, z };
-    }
-    if kind == kind::ROTATOR {
-        return Value::Rotator {
+    let x = ieee::from_bits(words.a);
+    let y = ieee::from_bits(words.b);
+    let z = ieee::from_bits(words.c);
+    let w = ieee::from_bits(words.d);
+    match kind {
+        kind::VECTOR => Value::Vector { x, y, z },
+        kind::ROTATOR => Value::Rotator {
             pitch: x,
             yaw: y,
             roll: z,
-        };
-    }
-    let w = ieee::from_bits(d);
-    if kind == kind::QUAT {
-        return Value::Quat { x, y, z, w };
-    }
-    if kind == kind::COLOR {
-        return Value::Color {
+        },
+        kind::QUAT => Value::Quat { x, y, z, w },
+        kind::COLOR => Value::Color {
             r: x,
             g: y,
             b: z,
             a: w,
-        };
+        },
+        _ => Value::Text {
+            low: words.a,
+            high: words.b,
+        },
     }
-    Value::Text { low: a, high: b }
 }
 
 // The value of a kind that these words hold.
-pub fn value_of(kind: u8, a: u64, b: u64, c: u64, d: u64) -> Value
-    ensures { result ≡ held_value kind a b c d }
+#[tactic(auto, unfolding(crate::specs::Words::held_value))]
+pub fn value_of(kind: u8, words: Words) -> Value
+    ensures { result ≡ held_by kind words }
 {
-    if kind == kind::INT {
-        return Value::Int(whole::from_bits(a));
+    match kind {
+        kind::INT => Value::Int(whole::from_bits(words.a)),
+        kind::FLOAT => Value::Float(ieee::from_bits(words.a)),
+        kind::BOOL => Value::Bool(words.a == 1),
+        _ => composite_or_text(kind, words),
     }
-    if kind == kind::FLOAT {
-        return Value::Float(ieee::from_bits(a));
-    }
-    if kind == kind::BOOL {
-        return Value::Bool(a == 1);
-    }
-    composite_or_text(kind, a, b, c, d)
 }
 
 fn three_words(x: f64, y: f64, z: f64) -> Words
@@ -78,36 +82,35 @@ fn four_words(x: f64, y: f64, z: f64, w: f64) -> Words
     ensures { FourFloats result x y z w }
 {
     Words {
-        a: ieee::to_bits(x),
-        b: ieee::to_bits(y),
-        c: ieee::to_bits(z),
         d: ieee::to_bits(w),
+        ..three_words(x, y, z)
     }
-}
-
-fn two_words(a: u64, b: u64) -> Words
-    ensures { result ≡ record { a = a; b = b; c = 0; d = 0 } }
-{
-    Words { a, b, c: 0, d: 0 }
-}
-
-fn bool_word(b: bool) -> u64
-    ensures { eqb result 1 ≡ b }
-{
-    if b { 1 } else { 0 }
 }
 
 pub fn words_of(v: Value) -> Words
     ensures { held_by (kind_of v) result ≡ v }
 {
     match v {
-        Value::Int(n) => two_words(whole::to_bits(n), 0),
-        Value::Float(x) => two_words(ieee::to_bits(x), 0),
-        Value::Bool(b) => two_words(bool_word(b), 0),
+        Value::Int(n) => Words {
+            a: whole::to_bits(n),
+            ..Words::ZERO
+        },
+        Value::Float(x) => Words {
+            a: ieee::to_bits(x),
+            ..Words::ZERO
+        },
+        Value::Bool(b) => Words {
+            a: u64::from(b),
+            ..Words::ZERO
+        },
         Value::Vector { x, y, z } => three_words(x, y, z),
         Value::Rotator { pitch, yaw, roll } => three_words(pitch, yaw, roll),
         Value::Quat { x, y, z, w } => four_words(x, y, z, w),
         Value::Color { r, g, b, a } => four_words(r, g, b, a),
-        Value::Text { low, high } => two_words(low, high),
+        Value::Text { low, high } => Words {
+            a: low,
+            b: high,
+            ..Words::ZERO
+        },
     }
 }

@@ -1,56 +1,48 @@
 // Folds the graph that standard input says, as raw bytes, and writes the answer, or one line that says the refusal, to standard output.
 #![tactic(auto)]
 
-use folding::Outcome;
-use std::io::{Input, Read};
+ghost use Rattle.std.specs.Prelude.{◌≤◌, IfOk, length};
 
-const STDIN_FILENO: i32 = 0;
-
-const STDOUT_FILENO: i32 = 1;
-
-const STDERR_FILENO: i32 = 2;
+use ir::limit;
+use std::io;
+use std::io::Read;
 
 // One byte more than an input may have, so that a longer one is seen to be too long.
-const MOST: usize = 65537;
+const MOST: usize = limit::INPUT + 1;
 
 const ROOM: usize = 65536;
 
-// Whether standard input is at its end, and did not fail.
-fn at_end(rt: &impl Input) -> bool {
-    let mut byte = [0u8; 1];
-    match rt.reader().read(&mut byte) {
-        Ok(n) => n == 0,
-        Err(_) => false,
+// Reads to the end of the input, or until the buffer is full. How many bytes came.
+fn read_input<R: Read>(from: &mut R, buffer: &mut [u8]) -> io::Result<usize>
+    ensures { IfOk result (λ n. n ≤ length buffer.new) }
+{
+    let mut done = 0;
+    while done < buffer.len() {
+        let n = from.read(&mut buffer[done..])?;
+        if n == 0 {
+            break;
+        }
+        done += n;
     }
+    Ok(done)
 }
 
-fn write_refusal(number: u8, place: usize) -> bool {
-    io::write_all(STDOUT_FILENO, b"refused ")
-        & io::print_decimal(STDOUT_FILENO, number as u64)
-        & io::write_all(STDOUT_FILENO, b" at ")
-        & io::print_decimal(STDOUT_FILENO, place as u64)
-        & io::write_all(STDOUT_FILENO, b"\n")
-}
-
-// Folds into a buffer and writes what came; whether it could be written.
-fn fold(input: &[u8], out: &mut [u8]) -> bool {
+// Folds into a buffer, and writes what came.
+fn fold<P: Print>(rt: &P, input: &[u8], out: &mut [u8]) -> io::Result<()> {
     match folding::fold(input, out) {
-        Outcome::Folded { length, pops: _ } => io::write_all(STDOUT_FILENO, &out[..length]),
-        Outcome::Refused { number, place } => write_refusal(number, place),
+        Ok(folded) => rt.write_all(&out[..folded.length]),
+        Err(refusal) => println!(rt; "refused {} at {}", refusal.number(), refusal.place()),
     }
 }
 
 fn main(rt: HostRuntime) {
     let mut input = [0u8; MOST];
-    let n = io::read_full(STDIN_FILENO, &mut input);
-    if n < MOST {
-        if !at_end(&rt) {
-            io::write_all(STDERR_FILENO, b"fold: the input cannot be read\n");
-            return;
-        }
-    }
+    let Ok(n) = read_input(&mut rt.stdin(), &mut input) else {
+        let _ = eprintln!(rt; "fold: the input cannot be read");
+        return;
+    };
     let mut out = [0u8; ROOM];
-    if !fold(&input[..n], &mut out) {
-        io::write_all(STDERR_FILENO, b"fold: the answer cannot be written\n");
+    if fold(&rt, &input[..n], &mut out).is_err() {
+        let _ = eprintln!(rt; "fold: the answer cannot be written");
     }
 }

@@ -1,7 +1,7 @@
 -- The rewriting takes no notice of a planned literal's value.
+use Rattle.std.specs.Prelude.{Option, None, Some}
 use mathlib.Core.Path.{◌≡◌, refl, ap, ap₂}
 use mathlib.Core.Bool.{Bool, true, false, cond, false≢true}
-use mathlib.Core.Option.{Option, none, some}
 use mathlib.Core.List.{List, [], ◌∷◌}
 use Prim.Native.Nat.{ℕ, zero, suc}
 use lib.Dec.{eqb}
@@ -19,10 +19,10 @@ use Rattle.state.specs.Planned.{shape_at, shape_of, literal_of, valued, plan_of}
 
 -- the same but for the value of a literal
 pub data Alike : Option PlanAction → Option PlanAction → Type 0 where
-  kept : Alike none none
-  literal : {v w : Value} → Alike (some (BecomeLiteral v)) (some (BecomeLiteral w))
-  short : {s : PortRef} → Alike (some (ShortCircuit s)) (some (ShortCircuit s))
-  cut : {ts : List PortRef} → Alike (some (Truncate ts)) (some (Truncate ts))
+  kept : Alike None None
+  literal : {v w : Value} → Alike (Some (BecomeLiteral v)) (Some (BecomeLiteral w))
+  short : {s : PortRef} → Alike (Some (ShortCircuit s)) (Some (ShortCircuit s))
+  cut : {ts : List PortRef} → Alike (Some (Truncate ts)) (Some (Truncate ts))
 
 pub collect_same : {A B : Type 0} (f h : A → Option (List B)) → ((x : A) → f x ≡ h x) → (xs : List A) → collect f xs ≡ collect h xs
 unfolding collect
@@ -35,11 +35,11 @@ module _ (p q : Map PlanAction) (alike : (n : ℕ) → Alike (p n) (q n)) where
   arrive_same f h s e kept = refl
   arrive_same f h s e literal = refl
   arrive_same f h s e short = refl
-  arrive_same f h s e (cut {ts = ts}) = ap (λ (x : Option (List PortRef)). cond (eqb e.port exec) x (some [])) (s ts)
+  arrive_same f h s e (cut {ts = ts}) = ap (λ (x : Option (List PortRef)). cond (eqb e.port exec) x (Some [])) (s ts)
 
   pub reach_same : (k : ℕ) (e : PortRef) → reach p k e ≡ reach q k e
   unfolding reach
-  reach_same zero e = arrive_same (λ ts. none) (λ ts. none) (λ ts. refl) e (alike e.node_id)
+  reach_same zero e = arrive_same (λ ts. None) (λ ts. None) (λ ts. refl) e (alike e.node_id)
   reach_same (suc k) e = arrive_same (λ ts. collect (reach p k) ts) (λ ts. collect (reach q k) ts) (collect_same (reach p k) (reach q k) (reach_same k)) e (alike e.node_id)
 
   leave_same : (f h : PortRef → Source) → ((s : PortRef) → f s ≡ h s) → (e : PortRef) {o o' : Option PlanAction} → Alike o o' → leave f o e ≡ leave h o' e
@@ -73,15 +73,15 @@ module _ (ws : List Wire) (known : Map Value) (actions details : List ℕ) (lite
   unfolding plan_of shape_of shape_at valued is_some
   shape_alike n = one (eqb (get_or actions n 0) 1) refl _ (two _ _ (eqb (get_or actions n 0) 2) (eqb (get_or actions n 0) 3))
     where
-      lit : (o : Option Value) → is_some o ≡ true → Alike (literal_of o) (some (BecomeLiteral (Value.Bool true)))
-      lit none e = absurd (false≢true e)
-      lit (some v) e = literal
+      lit : (o : Option Value) → is_some o ≡ true → Alike (literal_of o) (Some (BecomeLiteral (Value.Bool true)))
+      lit None e = absurd (false≢true e)
+      lit (Some v) e = literal
 
-      two : (s : PortRef) (ts : List PortRef) (b c : Bool) → Alike (valued (cond b (some (ShortCircuit s)) (cond c (some (Truncate ts)) none)) (known n)) (cond b (some (ShortCircuit s)) (cond c (some (Truncate ts)) none))
+      two : (s : PortRef) (ts : List PortRef) (b c : Bool) → Alike (valued (cond b (Some (ShortCircuit s)) (cond c (Some (Truncate ts)) None)) (known n)) (cond b (Some (ShortCircuit s)) (cond c (Some (Truncate ts)) None))
       two s ts true c = short
       two s ts false true = cut
       two s ts false false = kept
 
-      one : (b : Bool) → eqb (get_or actions n 0) 1 ≡ b → (o : Option PlanAction) → Alike (valued o (known n)) o → Alike (valued (cond b (some (BecomeLiteral (Value.Bool true))) o) (known n)) (cond b (some (BecomeLiteral (Value.Bool true))) o)
+      one : (b : Bool) → eqb (get_or actions n 0) 1 ≡ b → (o : Option PlanAction) → Alike (valued o (known n)) o → Alike (valued (cond b (Some (BecomeLiteral (Value.Bool true))) o) (known n)) (cond b (Some (BecomeLiteral (Value.Bool true))) o)
       one true e o a = lit (known n) (literal-known n (eqb-true (get_or actions n 0) 1 e))
       one false e o a = a

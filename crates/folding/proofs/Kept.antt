@@ -1,7 +1,7 @@
 -- The demands on an entry follow from its result and buffer, or hold of every graph.
+use Rattle.std.specs.Prelude.{Some, Ok, Err}
 use mathlib.Core.Path.{◌≡◌, refl, sym, ap, ap₂, ◌∙◌, subst, subst₂}
 use mathlib.Core.List.{List, ◌++◌}
-use mathlib.Core.Option.{some}
 use mathlib.Core.Logic.{◌⊎◌, inl, inr}
 use lib.Seq.{take-append_seam, drop-append_seam}
 use Prim.Native.Nat.{ℕ, ◌<◌, ◌≤◌}
@@ -29,28 +29,29 @@ use Rattle.model.proofs.CleanWires.{rewritten_clean}
 use Rattle.model.proofs.Refusals.{refusals, refusal_number}
 use Rattle.model.proofs.Folding.{Folding, graph_of_lem, folds_folding}
 use Rattle.model.proofs.Decoded.{refused_number}
-use Rattle.folding.specs.declared.Outcome.{Outcome}
-use Rattle.folding.specs.Entry.{case_of, numbers, Answers}
+use Rattle.folding.specs.Entry.{Returned, IsCase, numbers, Answers}
 use Rattle.folding.specs.Demands.{RefusalsBy, EndlessAt, Accepted, OrderFree, AnswerBy, PopsOf, FinitePlan, CleanWires, TooManyWires}
 
 -- an entry writes no more than `max_answer` bytes
 abbrev pub Short : (Graph → State → List Wire → List ℕ) → Type 0
-Short bytes = (g : Graph) → Bounded g.wires (size g) → (ws : List Wire) → rewrite_wires (plan_of g) (size g) g.wires ≡ some ws → length ws ≤ max_wires → length (bytes g (fold_of g).state ws) ≤ max_answer
+Short bytes = (g : Graph) → Bounded g.wires (size g) → (ws : List Wire) → rewrite_wires (plan_of g) (size g) g.wires ≡ Some ws → length ws ≤ max_wires → length (bytes g (fold_of g).state ws) ≤ max_answer
 
 pub fold_short : Short fold_bytes
 fold_short g = answer_size (literals g) g
 
-module _ (bytes : Graph → State → List Wire → List ℕ) {input before after : List ℕ} {r : Outcome} (A : Answers (outcome_by bytes) input before after r) where
+module _ (bytes : Graph → State → List Wire → List ℕ) {input before after : List ℕ} {r : Returned} (A : Answers (outcome_by bytes) input before after r) where
   abbrev room : ℕ
   room = length before
 
-  case_numbers : (o : Result) → numbers (case_of o) ≡ numbers_of o
+  case_numbers : (o : Result) (x : Returned) → IsCase o x → numbers x ≡ numbers_of o
   unfolding numbers_of
-  case_numbers (folds a k) = refl
-  case_numbers (refuses n p) = refl
+  case_numbers (folds a k) (Ok x) e = ap₂ (λ (l m : ℕ). record { number = 0; place = 0; length = l; pops = m }) e.0 e.1
+  case_numbers (folds a k) (Err x) e = absurd e
+  case_numbers (refuses n p) (Ok x) e = absurd e
+  case_numbers (refuses n p) (Err x) e = ap₂ (λ (m q : ℕ). record { number = m; place = q; length = 0; pops = 0 }) e.0 e.1
 
   pub numbers_kept : numbers r ≡ numbers_of (outcome_by bytes input room)
-  numbers_kept = ap numbers A.result ∙ case_numbers (outcome_by bytes input room)
+  numbers_kept = case_numbers (outcome_by bytes input room) r A.result
 
   -- ---- the buffer
 

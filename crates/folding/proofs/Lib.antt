@@ -1,4 +1,4 @@
 pub mod Alike
-pub mod Answers
+pub mod Outcomes
 pub mod Stages
 pub mod Kept

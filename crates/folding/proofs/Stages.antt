@@ -1,7 +1,7 @@
 -- From each stage to the entry's result and buffer.
+use Rattle.std.specs.Prelude.{Some, Ok, Err}
 use mathlib.Core.Path.{◌≡◌, refl, sym, ap, ap₂, ◌∙◌, subst, subst₂}
 use mathlib.Core.Bool.{Bool, true, false, cond}
-use mathlib.Core.Option.{some}
 use mathlib.Core.List.{List, [], ◌∷◌, ◌++◌}
 use Prim.Native.Nat.{ℕ, suc, ◌+◌, ◌*◌, ◌<◌, ◌≤◌}
 use native.Mathlib.Omega.{arith}
@@ -14,7 +14,9 @@ use Rattle.encoding.specs.Wires.{wire_bytes}
 use Rattle.encoding.proofs.Splices.{written_length, written_more}
 use Rattle.graph.specs.Graph.{Graph}
 use Rattle.graph.specs.Decode.{accepted, refused, decode, graph_of}
+use Rattle.graph.specs.Refusals.{number_of, place_of}
 use Rattle.graph.specs.declared.Counts.{Counts}
+use Rattle.graph.specs.declared.Refusal.{Refusal}
 use Rattle.records.specs.Access.{wires_of, Accepts, wire_records}
 use Rattle.records.proofs.Laid.{counted, bounded}
 use Rattle.model.specs.Maps.{Map, is_some}
@@ -38,25 +40,24 @@ use Rattle.answer.specs.Nodes.{known_records, fate_records}
 use Rattle.emit.specs.Emit.{or_nil, Ready}
 use Rattle.propagation.specs.Propagation.{Settled}
 use Rattle.propagation.proofs.Accepted.{accepted_graph, nodes_are, bounded_at}
-use Rattle.folding.specs.declared.Outcome.{Outcome}
-use Rattle.folding.specs.Entry.{Answers, fold_by, Folds, Rewrote, Kept}
-use Rattle.folding.proofs.Answers.{bytes_in, bytes_size, fold_endless, fold_many, fold_long, fold_folds}
+use Rattle.folding.specs.Entry.{Returned, Answers, fold_by, Folds, Rewrote, Kept}
+use Rattle.folding.proofs.Outcomes.{bytes_in, bytes_size, fold_endless, fold_many, fold_long, fold_folds}
 
 -- a refusal leaves the buffer
-pub refuse : {fold : List ℕ → ℕ → Result} {input before : List ℕ} {n p : ℕ} → fold input (length before) ≡ refuses n p → Answers fold input before before (Outcome.Refused n p)
+pub refuse : {fold : List ℕ → ℕ → Result} {input before : List ℕ} (e : Refusal) → fold input (length before) ≡ refuses (number_of e) (place_of e) → Answers fold input before before (Err e)
 unfolding written
-refuse e = record { result = rw e refl; buffer = rw e refl }
+refuse e q = record { result = rw q (refl, refl); buffer = rw q refl }
 
 at_accepted : (input : List ℕ) (room : ℕ) {g : Graph} → decode input ≡ accepted g → outcome input room ≡ fold_graph fold_bytes (literals g) g room
 unfolding outcome_by by_verdict
 at_accepted input room e = rw (e, by_verdict)
 
 -- questions 1 to 8 and 12
-pub refuse_decode : (bytes : Graph → State → List Wire → List ℕ) {input before : List ℕ} {n p : ℕ} → decode input ≡ refused n p → Answers (outcome_by bytes) input before before (Outcome.Refused n p)
-refuse_decode bytes {input} {before} {n} {p} e = refuse (at_refusal bytes input (length before) n p e)
+pub refuse_decode : (bytes : Graph → State → List Wire → List ℕ) {input before : List ℕ} (e : Refusal) → decode input ≡ refused (number_of e) (place_of e) → Answers (outcome_by bytes) input before before (Err e)
+refuse_decode bytes {input} {before} e q = refuse e (at_refusal bytes input (length before) (number_of e) (place_of e) q)
 
 -- with nothing set, a fold of the graph is the input's outcome
-pub plain : {input : List ℕ} {c : Counts} {kinds words actions details : List ℕ} {pops : ℕ} {before after : List ℕ} {r : Outcome} → Settled input (own_of (graph_of input) (replicate max_nodes set_nothing)) c kinds words actions details pops → Folds input c kinds words actions details pops before after r → Answers outcome input before after r
+pub plain : {input : List ℕ} {c : Counts} {kinds words actions details : List ℕ} {pops : ℕ} {before after : List ℕ} {r : Returned} → Settled input (own_of (graph_of input) (replicate max_nodes set_nothing)) c kinds words actions details pops → Folds input c kinds words actions details pops before after r → Answers outcome input before after r
 plain {input} {c} {before = before} {after = after} {r = r} S f =
     let g = graph_of input in
     let e : fold_graph fold_bytes (own_of g (replicate max_nodes set_nothing)) g (length before) ≡ outcome input (length before) = ap (λ (own : Map Value). fold_graph fold_bytes own g (length before)) (own_zeros g max_nodes) ∙ sym (at_accepted input (length before) (accepted_graph input c S.accepts)) in
@@ -78,10 +79,10 @@ module _ {own : Map Value} {input : List ℕ} {c : Counts} {kinds words actions 
   g = graph_of input
 
   -- question 9
-  pub refuse_endless : {before : List ℕ} {index place : ℕ} → Stuck (shape_of g.wires actions details) (size g) g.wires index → place ≡ 3 * c.nodes + 7 * index → Answers (fold_by own) input before before (Outcome.Refused 9 place)
+  pub refuse_endless : {before : List ℕ} {index place : ℕ} → Stuck (shape_of g.wires actions details) (size g) g.wires index → place ≡ 3 * c.nodes + 7 * index → Answers (fold_by own) input before before (Err (Refusal.Endless place))
   refuse_endless {before} {index} {place} S e =
       let z : place ≡ wire_offset g (endless_index (shape_of g.wires actions details) (size g) g.wires) = e ∙ ap₂ (λ (d : Counts) (i : ℕ). 3 * d.nodes + 7 * i) (counted input c W.accepts) S.first in
-      refuse (fold_endless own (length before) g kinds words actions details W.finished.holds S.endless ∙ ap (refuses 9) (sym z))
+      refuse (Refusal.Endless place) (fold_endless own (length before) g kinds words actions details W.finished.holds S.endless ∙ ap (refuses 9) (sym z))
 
 module _ {own : Map Value} {input : List ℕ} {c : Counts} {kinds words actions details : List ℕ} {count pops : ℕ} (W : Settled input own c kinds words actions details pops) (C : Counted (shape_of (graph_of input).wires actions details) (size (graph_of input)) (graph_of input).wires count) where
   abbrev h : Graph
@@ -91,10 +92,10 @@ module _ {own : Map Value} {input : List ℕ} {c : Counts} {kinds words actions 
   ws = C.rewritten
 
   -- question 10: too many wires
-  pub refuse_many : {before : List ℕ} → max_wires < count → Answers (fold_by own) input before before (Outcome.Refused 10 0)
+  pub refuse_many : {before : List ℕ} → max_wires < count → Answers (fold_by own) input before before (Err Refusal.NoSpace)
   unfolding cap
   refuse_many {before} l =
-      refuse (fold_many own (length before) h kinds words actions details W.finished.holds ws C.ends (omega (arith, C.many)))
+      refuse Refusal.NoSpace (fold_many own (length before) h kinds words actions details W.finished.holds ws C.ends (omega (arith, C.many)))
 
   module _ (l : count ≤ max_wires) where
     pub exact : count ≡ length ws
@@ -105,9 +106,9 @@ module _ {own : Map Value} {input : List ℕ} {c : Counts} {kinds words actions 
     whole = bytes_size (size h) kinds words actions ws ∙ omega (arith, exact)
 
     -- question 10: too long an answer
-    pub refuse_long : {before : List ℕ} {size_of : ℕ} → size_of ≡ length (known_records kinds words (size h)) + length (fate_records kinds words actions (size h)) + 7 * count → length before < size_of → Answers (fold_by own) input before before (Outcome.Refused 10 0)
+    pub refuse_long : {before : List ℕ} {size_of : ℕ} → size_of ≡ length (known_records kinds words (size h)) + length (fate_records kinds words actions (size h)) + 7 * count → length before < size_of → Answers (fold_by own) input before before (Err Refusal.NoSpace)
     refuse_long {before} {size_of} e m =
-        refuse (fold_long own (length before) h kinds words actions details W.finished.holds ws C.ends (omega (arith, exact)) (omega (arith, whole)))
+        refuse Refusal.NoSpace (fold_long own (length before) h kinds words actions details W.finished.holds ws C.ends (omega (arith, exact)) (omega (arith, whole)))
 
     ws_is : or_nil (rewrite_wires (shape_of h.wires actions details) (size h) h.wires) ≡ ws
     ws_is = ap or_nil C.ends
@@ -118,14 +119,14 @@ module _ {own : Map Value} {input : List ℕ} {c : Counts} {kinds words actions 
           bounded = (unfold size in bounded input);
           shaped = W.finished.holds.shaped;
           rewritable = R;
-          ends = C.ends ∙ ap some (sym ws_is);
+          ends = C.ends ∙ ap Some (sym ws_is);
           few = omega (arith, ap length ws_is, exact);
         }
 
     -- the answer
     pub folded : {before two three : List ℕ} {b r : ℕ} → length (known_records kinds words (size h)) + length (fate_records kinds words actions (size h)) + 7 * count ≤ length before
         → Written (known_records kinds words (size h) ++ fate_records kinds words actions (size h)) before two 0 b → Written (each wire_bytes (or_nil (rewrite_wires (shape_of h.wires actions details) (size h) h.wires))) two three b r
-        → Answers (fold_by own) input before three (Outcome.Folded r pops)
+        → Answers (fold_by own) input before three (Ok (record { length = r; pops = pops }))
     unfolding written
     folded {before} {two} {three} {b} {r} m y z =
         let T : List ℕ = each wire_bytes ws in
@@ -133,13 +134,13 @@ module _ {own : Map Value} {input : List ℕ} {c : Counts} {kinds words actions 
         let w = written_more y (omega (arith, m, whole)) z' in
         let e : fold_graph fold_bytes own (graph_of input) (length before) ≡ folds (bytes_in (size h) kinds words actions ws) (worklist own h).pops = fold_folds own (length before) h kinds words actions details W.finished.holds ws C.ends (omega (arith, exact)) (omega (arith, m, whole)) in
         record {
-          result = rw e (ap₂ Outcome.Folded (w.past ∙ omega arith) W.finished.pops_are);
+          result = rw e (w.past ∙ omega arith, W.finished.pops_are);
           buffer = rw e (w.wrote ∙ splice_start before (bytes_in (size h) kinds words actions ws));
         }
 
     -- the same, where the code has the number of nodes and the wires
     module _ (n : ℕ) (vs : List Wire) (e : n ≡ size h) (f : vs ≡ h.wires) where
-      pub long_at : {before : List ℕ} {size_of : ℕ} → size_of ≡ length (known_records kinds words n) + length (fate_records kinds words actions n) + 7 * count → length before < size_of → Answers (fold_by own) input before before (Outcome.Refused 10 0)
+      pub long_at : {before : List ℕ} {size_of : ℕ} → size_of ≡ length (known_records kinds words n) + length (fate_records kinds words actions n) + 7 * count → length before < size_of → Answers (fold_by own) input before before (Err Refusal.NoSpace)
       long_at {before} {size_of} q m = refuse_long {before = before} {size_of = size_of} (rw e at q) m
 
       pub ready_at : {sources targets first next : List ℕ} → Rewritable h.wires (size h) actions details sources targets first next → Ready vs n actions details sources targets first next
@@ -150,12 +151,12 @@ module _ {own : Map Value} {input : List ℕ} {c : Counts} {kinds words actions 
 
       pub folded_at : {before two three : List ℕ} {b r : ℕ} → length (known_records kinds words n) + length (fate_records kinds words actions n) + 7 * count ≤ length before
           → Written (known_records kinds words n ++ fate_records kinds words actions n) before two 0 b → Written (each wire_bytes (or_nil (rewrite_wires (shape_of vs actions details) n vs))) two three b r
-          → Answers (fold_by own) input before three (Outcome.Folded r pops)
+          → Answers (fold_by own) input before three (Ok (record { length = r; pops = pops }))
       folded_at m y z = folded (rw e at m) (rw e at y) (rw (e, f) at z)
 
 -- ---- where neither a Select nor a Branch is planned
 
-module _ {own : Map Value} {input : List ℕ} {c : Counts} {kinds words actions details : List ℕ} {pops size_of : ℕ} (W : Settled input own c kinds words actions details pops) (K : Kept input c kinds words actions pops size_of) {vs : List Wire} (f : vs ≡ (graph_of input).wires) where
+module _ {own : Map Value} {input : List ℕ} {c : Counts} {kinds words actions details : List ℕ} {pops size_of : ℕ} (W : Settled input own c kinds words actions details pops) (K : Kept input c kinds words actions details pops size_of) {vs : List Wire} (f : vs ≡ (graph_of input).wires) where
   nodes_of : c.nodes ≡ size (graph_of input)
   nodes_of = nodes_are input c W.accepts
 
@@ -183,7 +184,7 @@ module _ {own : Map Value} {input : List ℕ} {c : Counts} {kinds words actions 
 
   pub kept_folded : {before two three : List ℕ} {b r : ℕ} → length before ≡ size_of
       → Written (known_records kinds words c.nodes ++ fate_records kinds words actions c.nodes) before two 0 b → Written (each wire_bytes (kept_wires actions vs)) two three b r
-      → Answers (fold_by own) input before three (Outcome.Folded r pops)
+      → Answers (fold_by own) input before three (Ok (record { length = r; pops = pops }))
   kept_folded {two = two} {three = three} {b = b} {r = r} e y z =
       folded_at W tallied (omega (arith, few, few_wires)) c.nodes vs nodes_of f (omega (arith, K.fits, few, wires_are, e)) y (subst (λ (us : List Wire). Written (each wire_bytes us) two three b r) (sym stay) z)
 

@@ -1,6 +1,5 @@
 -- The demands on an entry, each of the input, the buffer afterwards and the four numbers that are returned. `bytes` is what the entry writes for a graph.
-use Rattle.std.specs.Prelude.{ℕ, ◌+◌, ◌<◌, ◌≤◌, ◌≡◌, true, List, [], ◌⊎◌, ◌↔◌, length, get_or}
-use Rattle.std.proofs.Math.Option.{none, some}
+use Rattle.std.specs.Prelude.{ℕ, ◌+◌, ◌<◌, ◌≤◌, ◌≡◌, true, List, [], ◌⊎◌, ◌↔◌, length, get_or, None, Some}
 use Rattle.ir.specs.Limits.{max_wires}
 use Rattle.ir.specs.Classes.{folding_of}
 use Rattle.ir.specs.declared.Folding.{Folding}
@@ -46,7 +45,7 @@ OrderFree g = (ns : List ℕ) → (trials (literals g) g empty ns ≡ (fold_of g
 -- "Our answer is, byte for byte, what document 01 writes for that graph and the worklist's known values and plan"
 pub record AnswerBy (bytes : Graph → State → List Wire → List ℕ) (g : Graph) (written : List ℕ) : Type 0 where
   pub wires : List Wire
-  pub rewritten : rewrite_wires (plan_of g) (size g) g.wires ≡ some wires
+  pub rewritten : rewrite_wires (plan_of g) (size g) g.wires ≡ Some wires
   pub is : written ≡ bytes g (fold_of g).state wires
 
 abbrev pub AnswerOf : Graph → List ℕ → Type 0
@@ -60,18 +59,18 @@ pub record PopsOf (g : Graph) (pops : ℕ) : Type 0 where
 
 -- "each planned number is finite"
 abbrev pub FinitePlan : Graph → Type 0
-FinitePlan g = (n : ℕ) (v : Value) → plan_of g n ≡ some (BecomeLiteral v) → finite_value v ≡ true
+FinitePlan g = (n : ℕ) (v : Value) → plan_of g n ≡ Some (BecomeLiteral v) → finite_value v ≡ true
 
 -- "no rewritten wire touches a removed node or enters a node that was made literal"
 abbrev pub CleanWires : Graph → Type 0
-CleanWires g = (ws : List Wire) → rewrite_wires (plan_of g) (size g) g.wires ≡ some ws → All (Clean (plan_of g)) ws
+CleanWires g = (ws : List Wire) → rewrite_wires (plan_of g) (size g) g.wires ≡ Some ws → All (Clean (plan_of g)) ws
 
 -- "A Branch is never known."
 abbrev pub BranchesUnknown : Graph → Type 0
-BranchesUnknown g = (n : ℕ) → folding_of (node_of g n).class ≡ Folding.Branch → (fold_of g).state.known n ≡ none
+BranchesUnknown g = (n : ℕ) → folding_of (node_of g n).class ≡ Folding.Branch → (fold_of g).state.known n ≡ None
 
 -- there are more than 4,096 rewritten wires: with a buffer of `max_answer` bytes, which holds every answer, the one cause of 10
 pub record TooManyWires (g : Graph) : Type 0 where
   pub wires : List Wire
-  pub rewritten : rewrite_wires (plan_of g) (size g) g.wires ≡ some wires
+  pub rewritten : rewrite_wires (plan_of g) (size g) g.wires ≡ Some wires
   pub many : max_wires < length wires

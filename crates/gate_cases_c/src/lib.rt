@@ -7,8 +7,10 @@ ghost use Rattle.std.specs.Float.{binary64};
 ghost use Rattle.gate_cases.specs.Cases.{given_of, answer_bytes, or_nan};
 ghost use Rattle.root.specs.Sqrt.{sqrt_of};
 
+use gate_cases::{CASE_SIZE, OPERAND_SIZE};
+
 #[unsafe(no_mangle)]
-pub extern "C" fn mezburiko_gate_case(case: &[u8; 100], answer: &mut [u8; 33])
+pub extern "C" fn mezburiko_gate_case(case: &[u8; CASE_SIZE], answer: &mut [u8; OPERAND_SIZE])
     ensures { answer.new ≡ answer_bytes (given_of case.now) }
 {
     gate_cases::mezburiko_gate_case(case, answer)

@@ -1,4 +1,5 @@
 -- What a record adds to the counts, and a property to the table.
+use Rattle.std.specs.Prelude.{Option, None, Some}
 use Prim.Native.Nat.{ℕ, zero, suc, ◌+◌, ◌≤◌, ◌<◌}
 use native.Mathlib.Omega.{arith}
 use native.Mathlib.Decide.{ℕ_discrete}
@@ -7,15 +8,13 @@ use mathlib.Core.Bool.{false≢true, Bool, true, false, cond, ◌&&◌, ◌||◌
 use mathlib.Core.List.{List, [], ◌∷◌}
 use lib.ListN.{length, get_or, set, length-set}
 use lib.Seq.{get_or-set_same, get_or-set_other}
-use lib.Dec.{leb, eqb, eqb-suc-zero}
+use lib.Dec.{leb, eqb}
 use borrow.Author.Tests.{eq-eqb, ne_eqb, eqb-true, eqb-false, ltb-true, leb-true}
 use Rattle.ir.specs.Classes.{is_annihilator}
 use Rattle.ir.specs.Kinds.{role_of, text_kind}
 use Rattle.ir.specs.Variants.{text_variant}
 use Rattle.ir.specs.declared.Role.TheVariants.{Property as PropertyRole}
 use Rattle.value.specs.declared.Value.{Value}
-use Rattle.value.specs.declared.OptionValue.{OptionValue}
-use Rattle.value.specs.declared.OptionValue.TheVariants.{None, Some}
 use Rattle.value.specs.Variants.{variant_of}
 use Rattle.encoding.specs.Numbers.{byte, u16_at}
 use Rattle.encoding.specs.Values.{composite_or_text_at, value_at}
@@ -47,15 +46,12 @@ module _ {n : ℕ} {s : List ℕ} {at : ℕ} (h : Sound n PropertyRole s at) whe
   pub property_port : byte s (at + 3) ≤ 10
   property_port = leb-true (byte s (at + 3)) 10 (and_left (leb (byte s (at + 3)) 10) _ h.listed)
 
-  pub slot_small : {i : ℕ} → i ≡ slot (u16_at s (at + 1)) (byte s (at + 3)) → i < 11264
-  slot_small e = omega (arith, property_node, property_port)
-
 look_old : (n p : ℕ) (qs : List Property) (q : Property) → (eqb q.node_id n && eqb q.port p) ≡ false → lookup n p (snoc qs q) ≡ lookup n p qs
 unfolding lookup
 look_old n p [] q e = simp e
 look_old n p (r ∷ qs) q e = ap (cond (eqb r.node_id n && eqb r.port p) (Some r.value)) (look_old n p qs q e)
 
-missed : (b : Bool) (v : Value) (t : OptionValue) → is_none (cond b (Some v) t) ≡ true → (b ≡ false) × (is_none t ≡ true)
+missed : (b : Bool) (v : Value) (t : Option Value) → is_none (cond b (Some v) t) ≡ true → (b ≡ false) × (is_none t ≡ true)
 missed true v t e = absurd (false≢true e)
 missed false v t e = (refl, e)
 
@@ -134,7 +130,7 @@ unfolding value_at composite_or_text_at
 text_value s i = by_kind (λ k. eqb (variant_of (value_at k s i)) text_variant ≡ eqb k text_kind) refl refl refl refl refl refl refl refl
 
 module _ (ps : List Property) (s : List ℕ) (at : ℕ) (r : role_at s at ≡ PropertyRole) where
-  texts_more : texts (snoc ps (property_at s at)) ≡ cond (eqb (byte s at) text_kind) 1 0 + texts ps
+  pub texts_more : texts (snoc ps (property_at s at)) ≡ cond (eqb (byte s at) text_kind) 1 0 + texts ps
   texts_more = texts_snoc ps (property_at s at) ∙ ap (λ (b : Bool). cond b 1 0 + texts ps) (text_value s (at + 4) (byte s at) r)
 
   pub one_text : byte s at ≡ text_kind → texts (snoc ps (property_at s at)) ≡ texts ps + 1
@@ -144,10 +140,6 @@ module _ (ps : List Property) (s : List ℕ) (at : ℕ) (r : role_at s at ≡ Pr
   no_text n = texts_more ∙ ap (λ (b : Bool). cond b 1 0 + texts ps) (ne_eqb (byte s at) text_kind n) ∙ omega arith
 
 -- ---- an entry of the table
-
-pub entry_empty : (s : List ℕ) (o : ℕ) → eqb o 0 ≡ is_none (entry_value s o)
-entry_empty s zero = refl
-entry_empty s (suc o) = eqb-suc-zero o
 
 pub entry_none : (s : List ℕ) (o : ℕ) → o ≡ 0 → None ≡ entry_value s o
 entry_none s zero e = refl

@@ -1,11 +1,9 @@
 -- The graph that the records of an input say. A record is read in place: `s` is the whole input and `at` the offset of its kind byte.
-use Rattle.std.specs.Prelude.{ℕ, ◌+◌, Bool, false, cond, ◌&&◌, ◌||◌, List, [], ◌∷◌, ◌++◌, eqb, length}
+use Rattle.std.specs.Prelude.{ℕ, ◌+◌, Bool, false, cond, ◌&&◌, ◌||◌, List, [], ◌∷◌, ◌++◌, eqb, length, Option, None, Some}
 use Rattle.ir.specs.Variants.{text_variant}
 use Rattle.ir.specs.declared.Role.{Role}
 use Rattle.ir.specs.declared.Role.TheVariants.{Unlisted as NoRole, Node as NodeRole, Wire as WireRole, Property as PropertyRole, Row as RowRole, Annihilator as AnnihilatorRole}
 use Rattle.ir.specs.declared.Wire.{Wire}
-use Rattle.value.specs.declared.OptionValue.{OptionValue}
-use Rattle.value.specs.declared.OptionValue.TheVariants.{None, Some}
 use Rattle.value.specs.Variants.{variant_of}
 use Rattle.encoding.specs.Numbers.{byte, u16_at}
 use Rattle.encoding.specs.Wires.{wire_at}
@@ -14,6 +12,7 @@ use Rattle.graph.specs.declared.Node.{Node}
 use Rattle.graph.specs.declared.Property.{Property}
 use Rattle.graph.specs.declared.Row.{Row}
 use Rattle.graph.specs.declared.Counts.{Counts}
+use Rattle.value.specs.declared.Value.{Value}
 
 pub record Graph : Type 0 where
   pub nodes : List Node
@@ -71,7 +70,7 @@ add RowRole g s at = add_row g (row_at s at)
 add AnnihilatorRole g s at = add_annihilator g (annihilator_at s at)
 
 -- the first property of a node and a port
-unfoldable pub lookup : ℕ → ℕ → List Property → OptionValue
+unfoldable pub lookup : ℕ → ℕ → List Property → Option Value
 lookup node port [] = None
 lookup node port (p ∷ ps) = cond (eqb p.node_id node && eqb p.port port) (Some p.value) (lookup node port ps)
 

@@ -1,11 +1,9 @@
 -- The table by which a node's property is found in one step, and what the decoder holds of the records that it has read.
-use Rattle.std.specs.Prelude.{ℕ, zero, suc, ◌+◌, ◌*◌, ◌≤◌, ◌<◌, ◌≡◌, true, List, length, get_or}
+use Rattle.std.specs.Prelude.{ℕ, zero, suc, ◌+◌, ◌*◌, ◌≤◌, ◌<◌, ◌≡◌, true, List, length, get_or, Option, None, Some}
 use Rattle.ir.specs.Limits.{max_nodes}
 use Rattle.ir.specs.Ports.{value_port}
 use Rattle.ir.specs.declared.Role.{Role}
 use Rattle.ir.specs.declared.Role.TheVariants.{Property as PropertyRole}
-use Rattle.value.specs.declared.OptionValue.{OptionValue}
-use Rattle.value.specs.declared.OptionValue.TheVariants.{None, Some}
 use Rattle.encoding.specs.Numbers.{byte}
 use Rattle.encoding.specs.Values.{value_at}
 use Rattle.graph.specs.Graph.{Graph, lookup, counts_of}
@@ -14,13 +12,14 @@ use Rattle.graph.specs.Questions.{is_listed, has_nodes}
 use Rattle.graph.specs.Decode.{refusal_at}
 use Rattle.graph.specs.declared.Counts.{Counts}
 use Rattle.graph.specs.declared.Property.{Property}
+use Rattle.value.specs.declared.Value.{Value}
 
 -- where the table says of a node and a port
 abbrev pub slot : ℕ → ℕ → ℕ
 slot node port = node * 11 + port
 
 -- what an entry says: 0 that there is no property, another number the offset of its record
-abbrev pub entry_value : List ℕ → ℕ → OptionValue
+abbrev pub entry_value : List ℕ → ℕ → Option Value
 entry_value s zero = None
 entry_value s (suc at) = Some (value_at (byte s (suc at)) s (suc at + 4))
 

@@ -1,5 +1,5 @@
 -- Document 01, "Questions at the door", 2 to 8 and 12: "for each record from the front".
-use Rattle.std.specs.Prelude.{ℕ, ◌+◌, Bool, true, false, cond, not, ◌&&◌, ◌||◌, List, [], ◌∷◌, ltb, leb, eqb, length}
+use Rattle.std.specs.Prelude.{ℕ, ◌+◌, Bool, true, false, cond, not, ◌&&◌, ◌||◌, List, [], ◌∷◌, ltb, leb, eqb, length, Option, None, Some}
 use Rattle.ir.specs.Kinds.{text_kind}
 use Rattle.ir.specs.Variants.{text_variant}
 use Rattle.ir.specs.Classes.{is_class, is_order, folding_of, input_count, has_rows, is_annihilator}
@@ -8,13 +8,12 @@ use Rattle.ir.specs.Limits.{max_nodes, max_wires, max_properties, max_rows}
 use Rattle.ir.specs.Ports.{value_port}
 use Rattle.ir.specs.declared.Role.{Role}
 use Rattle.ir.specs.declared.Role.TheVariants.{Unlisted, Node, Wire, Property, Row, Annihilator}
-use Rattle.value.specs.declared.OptionValue.{OptionValue}
-use Rattle.value.specs.declared.OptionValue.TheVariants.{None, Some}
 use Rattle.text.specs.Listed.{is_listed_text}
 use Rattle.encoding.specs.Numbers.{byte, u16_at}
 use Rattle.graph.specs.Graph.{Graph, lookup, member, counts_of}
 use Rattle.graph.specs.Layout.{role_at, size_at}
 use Rattle.graph.specs.declared.Counts.{Counts}
+use Rattle.value.specs.declared.Value.{Value}
 
 -- what a record is judged by: the input, its offset, the kind before it, and the graph of the records before it
 pub record Context : Type 0 where
@@ -92,7 +91,7 @@ has_nodes n Row s at = true
 has_nodes n Annihilator s at = true
 
 -- 7. "Is it the first property of its node and port, or annihilator of its class?" "Equal rows and wires may repeat."
-abbrev pub is_none : OptionValue → Bool
+abbrev pub is_none : Option Value → Bool
 is_none None = true
 is_none (Some v) = false
 

@@ -1,14 +1,10 @@
 -- Document 01's number and place for each case of a refusal, and what the answer of `decode` says of an input.
-use Rattle.std.specs.Prelude.{ℕ, ◌≡◌}
+use Rattle.std.specs.Prelude.{ℕ, ◌≡◌, Option, None, Some, Result, Ok, Err}
 use Rattle.graph.specs.Graph.{counts_of}
 use Rattle.graph.specs.Decode.{Verdict, accepted, refused}
 use Rattle.graph.specs.declared.Counts.{Counts}
 use Rattle.graph.specs.declared.Refusal.{Refusal}
-use Rattle.graph.specs.declared.Refusal.TheVariants.{TooLong, UnknownKind, CutOff, Unlisted, OrdersText, OutOfOrder, MissingNode, Repeated, TooMany}
-use Rattle.graph.specs.declared.OptionRefusal.{OptionRefusal}
-use Rattle.graph.specs.declared.OptionRefusal.TheVariants.{None, Some}
-use Rattle.graph.specs.declared.Decoded.{Decoded}
-use Rattle.graph.specs.declared.Decoded.TheVariants.{Accepted, Refused}
+use Rattle.graph.specs.declared.Refusal.TheVariants.{TooLong, UnknownKind, CutOff, Unlisted, OrdersText, OutOfOrder, MissingNode, Repeated, TooMany, Endless, NoSpace}
 
 abbrev pub number_of : Refusal → ℕ
 number_of TooLong = 1
@@ -20,6 +16,8 @@ number_of (OutOfOrder at) = 5
 number_of (MissingNode at) = 6
 number_of (Repeated at) = 7
 number_of (TooMany at) = 8
+number_of (Endless at) = 9
+number_of NoSpace = 10
 
 abbrev pub place_of : Refusal → ℕ
 place_of TooLong = 0
@@ -31,6 +29,8 @@ place_of (OutOfOrder at) = at
 place_of (MissingNode at) = at
 place_of (Repeated at) = at
 place_of (TooMany at) = at
+place_of (Endless at) = at
+place_of NoSpace = 0
 
 -- the counts of an accepted graph, or a refusal's number and place
 pub data Report : Type 0 where
@@ -41,11 +41,11 @@ abbrev pub reported : Verdict → Report
 reported (accepted g) = counts (counts_of g)
 reported (refused n p) = refusal n p
 
-abbrev pub report_of : Decoded → Report
-report_of (Accepted c) = counts c
-report_of (Refused r) = refusal (number_of r) (place_of r)
+abbrev pub report_of : Result Counts Refusal → Report
+report_of (Ok c) = counts c
+report_of (Err r) = refusal (number_of r) (place_of r)
 
 -- an answer for one record names the number n, 0 for none, and the record's offset
-abbrev pub Names : OptionRefusal → ℕ → ℕ → Type 0
+abbrev pub Names : Option Refusal → ℕ → ℕ → Type 0
 Names None n at = 0 ≡ n
 Names (Some r) n at = (number_of r ≡ n) × (place_of r ≡ at)

@@ -1,10 +1,14 @@
 // What document 01's records say: the types of the graph's lists, questions 2 to 8 and 12 of one record, and what it adds.
 #![tactic(auto)]
 
+ghost use Rattle.std.specs.Prelude.{◌+◌, ◌≤◌, length};
+ghost use Rattle.graph.specs.Layout.{size_by};
+
 pub mod question;
 pub mod refusals;
 pub mod scan;
 
+use ir::Role;
 use value::Value;
 
 #[derive(Clone, Copy)]
@@ -28,8 +32,17 @@ pub struct Row {
     pub third: u8,
 }
 
-// How many records of each role an input has, how many of its properties are texts, and which annihilators.
+// The record at an offset of an input, with the bytes that its role asks of.
 #[derive(Clone, Copy)]
+pub struct Record<'a> {
+    pub role: Role,
+    pub input: &'a [u8],
+    pub at: usize,
+    pub ghost whole: { at + size_by role ≤ length input.now },
+}
+
+// How many records of each role an input has, how many of its properties are texts, and which annihilators.
+#[derive(Clone, Copy, Default)]
 pub struct Counts {
     pub nodes: usize,
     pub wires: usize,
@@ -41,7 +54,8 @@ pub struct Counts {
     pub or_true: bool,
 }
 
-// The first question that is answered with no. From the second on it holds the record's offset.
+// The first question that is answered with no. It holds the offset of the record at fault, where one is: of `Endless` that of the first wire
+// whose rewriting does not end.
 #[derive(Clone, Copy)]
 pub enum Refusal {
     TooLong,
@@ -53,18 +67,8 @@ pub enum Refusal {
     MissingNode(usize),
     Repeated(usize),
     TooMany(usize),
-}
-
-#[derive(Clone, Copy)]
-pub enum OptionRefusal {
-    None,
-    Some(Refusal),
-}
-
-#[derive(Clone, Copy)]
-pub enum Decoded {
-    Accepted(Counts),
-    Refused(Refusal),
+    Endless(usize),
+    NoSpace,
 }
 
 // The length of the table from (node, port) to the offset of the property: 1,024 nodes with 11 ports each.

@@ -1,5 +1,5 @@
 -- What `remainder` rests on: floats in units of the smallest value, of which 2 ^ 1074 are one, and remainders of whole numbers.
-use Rattle.std.proofs.Common.{◌≡◌, ℕ, zero, suc, ◌+◌, ◌-◌, ◌*◌, ◌/◌, ◌%◌, ◌^◌, ◌<◌, ◌≤◌, Bool, true, false, cond, T, eqb, leb, sym, refl, ap, ◌∙◌, subst, true≢false, le_trans, lt_of_lt_of_le, le-add_right, lt_of_le_of_lt, add-zero, le_of_lt, lt_irrefl, mul-le-mul_right, mod-lt, mod-eq_of_lt, zero-lt-suc, mul_assoc, mul_comm, mul-le-mul_left, mul-lt-mul_of_pos_right, mul-pos, div-add-mod', zero-add, zero-mul, mul-one, mul-add, mul_right_comm, mul_left_comm, arith, lit<, eqb→eq, pow_pos, pow_mono, pow-add, shl_lt}
+use Rattle.std.proofs.Common.{◌≡◌, ℕ, zero, suc, ◌+◌, ◌-◌, ◌*◌, ◌/◌, ◌%◌, ◌^◌, ◌<◌, ◌≤◌, Bool, true, false, cond, T, eqb, leb, sym, refl, ap, ◌∙◌, subst, true≢false, le_trans, lt_of_lt_of_le, le-add_right, add-zero, lt_irrefl, mul-le-mul_right, mod-lt, mod-eq_of_lt, zero-lt-suc, mul_assoc, mul_comm, mul-lt-mul_of_pos_right, mul-pos, div-add-mod', zero-add, zero-mul, mul-one, mul-add, mul_right_comm, mul_left_comm, arith, lit<, eqb→eq, pow_pos, pow_mono, pow-add, shl_lt}
 use mathlib.Core.Path.{subst⁻¹}
 use mathlib.Core.Bool.{false≢true}
 use native.Mathlib.Nat.{add-mul-mod_self_right}
@@ -55,9 +55,6 @@ product_digits x y b =
   where
     apart : (q r : ℕ) → (q * b + r) * 1024 + x * (y % 1024) ≡ r * 1024 + x * (y % 1024) + q * 1024 * b
     apart q r = omega arith
-
-pub small_product : (x y : ℕ) → x < 2 ^ 53 → y < 1024 → x * y < 2 ^ 63
-small_product x y h k = lt_of_le_of_lt (mul-le-mul_left x (le_of_lt k)) (omega arith)
 
 pub factor_mod : (x y b : ℕ) → x * (y % b) % b ≡ x * y % b
 factor_mod x y b = ap (λ (z : ℕ). z % b) (mul_comm x (y % b)) ∙ mod_shift y b x ∙ ap (λ (z : ℕ). z % b) (mul_comm y x)

@@ -37,7 +37,7 @@ pub fn from_bits(bits: u64) -> f64
     ensures back { Ieee.is_nan result ≡ false → bits_of result ≡ bits }
 {
     if bits & MAGNITUDE > INFINITY {
-        0.0 / 0.0
+        f64::NAN
     } else {
         f64::from_bits(bits)
     }
@@ -47,7 +47,7 @@ pub fn from_bits(bits: u64) -> f64
 pub fn to_bits(x: f64) -> u64
     ensures { result ≡ bits_of x }
 {
-    if x != x { NAN } else { f64::to_bits(x) }
+    if x.is_nan() { NAN } else { x.to_bits() }
 }
 
 // Whether x has the negative sign, -0.0 too. A NaN has none, whatever its bits.
@@ -173,18 +173,15 @@ pub fn decompose(x: f64) -> Parts
     let negative = bits >= SIGN;
     let field = bits % SIGN / LEADING;
     let digits = bits % LEADING;
-    if field == 0 {
-        Parts {
-            negative,
-            significand: digits,
-            exponent: 0,
-        }
+    let (significand, exponent) = if field == 0 {
+        (digits, 0)
     } else {
-        Parts {
-            negative,
-            significand: LEADING + digits,
-            exponent: field - 1,
-        }
+        (LEADING + digits, field - 1)
+    };
+    Parts {
+        negative,
+        significand,
+        exponent,
     }
 }
 
@@ -253,7 +250,7 @@ fn finite_remainder(x: f64, y: f64) -> f64
     let a = decompose(x);
     let b = decompose(y);
     if b.significand == 0 {
-        return 0.0 / 0.0;
+        return f64::NAN;
     }
     if a.exponent < b.exponent {
         return x;
@@ -268,10 +265,10 @@ pub fn remainder(x: f64, y: f64) -> f64
     ensures { result ≡ Ieee.rem binary64 x y }
 {
     if !is_finite(x) {
-        return 0.0 / 0.0;
+        return f64::NAN;
     }
     if is_finite(y) {
         return finite_remainder(x, y);
     }
-    if y == y { x } else { y }
+    if y.is_nan() { y } else { x }
 }

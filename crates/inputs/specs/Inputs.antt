@@ -1,12 +1,10 @@
 -- What a lookup of an input reads, and what the types of the code say in the model's terms.
-use Rattle.std.specs.Prelude.{ℕ, ◌-◌, ◌≤◌, ◌<◌, ◌≡◌, Bool, true, false, cond, ◌&&◌, List, eqb, leb, get_or}
-use Rattle.std.proofs.Math.Option.{Option, none, some}
+use Rattle.std.specs.Prelude.{ℕ, ◌-◌, ◌≤◌, ◌<◌, ◌≡◌, Bool, true, false, cond, ◌&&◌, List, eqb, leb, get_or, Option, None, Some, IfSome}
 use Rattle.ir.specs.declared.Wire.{Wire}
 use Rattle.std.specs.Float.Ieee.{of_bits}
 use Rattle.std.specs.Float.{binary64}
 use Rattle.whole.specs.Bits.{from_bits}
 use Rattle.value.specs.declared.Value.{Value}
-use Rattle.value.specs.declared.Operand.{Operand}
 use Rattle.value.specs.Variants.{in_variant}
 use Rattle.encoding.specs.Numbers.{byte, u64_at}
 use Rattle.graph.specs.Graph.{Graph}
@@ -21,10 +19,8 @@ use Rattle.model.specs.declared.Resolved.{Resolved}
 use Rattle.wire_index.specs.Chains.{Feeds as Chains}
 use Rattle.state.specs.Held.{known_of}
 use Rattle.inputs.specs.declared.Located.{Located}
-use Rattle.inputs.specs.declared.Lookup.{Lookup}
 use Rattle.inputs.specs.declared.Feeds.{Feeds}
-use Rattle.inputs.specs.declared.Feeds.TheVariants.{None, One, Many}
-use Rattle.inputs.specs.declared.OptionBool.{OptionBool}
+use Rattle.inputs.specs.declared.Feeds.TheVariants.{One, Many}
 
 -- ---- wires into a port
 
@@ -36,7 +32,7 @@ feeds_in ws n p = keep (λ w. is_port w.target n p) ws
 unfoldable pub feeds_of : List ℕ → List ℕ → ℕ → Feeds
 feeds_of first next slot =
     let code : ℕ = get_or first slot 0 in
-    cond (eqb code 0) None (cond (eqb (get_or next (code - 1) 0) 0) (One (code - 1)) Many)
+    cond (eqb code 0) Feeds.None (cond (eqb (get_or next (code - 1) 0) 0) (One (code - 1)) Many)
 
 -- the wires of a graph of so many nodes, with their chains
 pub record Wired (wires first next : List ℕ) : Type 0 where
@@ -60,10 +56,6 @@ wired_port input kinds words n = resolve_input (graph_of input) (known_of kinds 
 abbrev pub port_of : List ℕ → List ℕ → List ℕ → ℕ → ℕ → Resolved
 port_of input kinds words n = resolve_data_input (graph_of input) n (wired_port input kinds words n)
 
-abbrev pub truth : OptionBool → Option Bool
-truth OptionBool.None = none
-truth (OptionBool.Some b) = some b
-
 -- an input, where a gate has it
 abbrev pub input_if : Bool → Resolved → Resolved
 input_if has input = cond has input Resolved.Unwired
@@ -81,12 +73,12 @@ abbrev pub word_at : ℕ → List ℕ → ℕ → ℕ
 word_at kind s i = cond (eqb kind 5) (byte s i) (u64_at s i)
 
 -- the operand of a variant up to Bool, which a word holds
-abbrev pub scalar_operand : ℕ → ℕ → Operand
+abbrev pub scalar_operand : ℕ → ℕ → Option Value
 scalar_operand variant word =
-    cond (eqb variant 0) Operand.Unwired
-    (cond (eqb variant 1) (Operand.Known (Value.Int (from_bits word)))
-    (cond (eqb variant 2) (Operand.Known (Value.Float (of_bits binary64 word)))
-    (Operand.Known (Value.Bool (eqb word 1)))))
+    cond (eqb variant 0) None
+    (cond (eqb variant 1) (Some (Value.Int (from_bits word)))
+    (cond (eqb variant 2) (Some (Value.Float (of_bits binary64 word)))
+    (Some (Value.Bool (eqb word 1)))))
 
 -- an input of a node that is resolved, by the node's property there and the known values
 pub record Locates (i : Resolved) (property : Option Value) (known : Map Value) (l : Located) : Type 0 where
@@ -95,11 +87,11 @@ pub record Locates (i : Resolved) (property : Option Value) (known : Map Value) 
   pub scalar : l.variant ≤ 3 → operand_of i ≡ scalar_operand l.variant l.word
   -- of an input with no value the word is 0, as which Add to Modulo read it
   pub unwired : l.variant ≡ 0 → l.word ≡ 0
-  pub within : l.wired ≡ true → l.source < max_nodes
-  pub by_wire : l.wired ≡ true → operand_of i ≡ operand_of (carried (known l.source))
-  pub by_property : l.wired ≡ false → 0 < l.variant → operand_of i ≡ operand_of (carried property)
+  pub within : IfSome l.source (λ m. m < max_nodes)
+  pub by_wire : IfSome l.source (λ m. operand_of i ≡ operand_of (carried (known m)))
+  pub by_property : l.source ≡ None → 0 < l.variant → operand_of i ≡ operand_of (carried property)
 
--- what a lookup of an input finds
-pub record LooksUp (i : Resolved) (property : Option Value) (known : Map Value) (r : Lookup) : Type 0 where
-  pub unresolved : r ≡ Lookup.Unresolved → is_resolved i ≡ false
-  pub found : (l : Located) → r ≡ Lookup.Found l → Locates i property known l
+-- what a lookup of an input finds; None where it is unresolved
+pub record LooksUp (i : Resolved) (property : Option Value) (known : Map Value) (r : Option Located) : Type 0 where
+  pub unresolved : r ≡ None → is_resolved i ≡ false
+  pub found : (l : Located) → r ≡ Some l → Locates i property known l

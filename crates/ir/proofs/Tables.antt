@@ -1,25 +1,15 @@
 -- Tables whose entries follow a rule of their places.
-use Prim.Native.Nat.{ℕ, zero, suc, ◌+◌, ◌≤◌, ◌<◌, zero-le}
+use Prim.Native.Nat.{ℕ, zero, suc, ◌+◌, ◌≤◌, ◌<◌}
 use native.Mathlib.Nat.{add-zero, zero-add, add-suc, suc-add, le_of_suc-le-suc, not-suc-le-zero}
 use mathlib.Core.Path.{◌≡◌, sym, ap, ◌∙◌}
 use mathlib.Core.Bool.{Bool, true, false, cond, ◌&&◌, ◌||◌}
 use mathlib.Core.List.{List, [], ◌∷◌}
 use borrow.Author.Tests.{le-ltb, ne_eqb}
-use lib.Arith.{lt_of_le-ne}
 use lib.Dec.{ltb, leb, eqb}
 use lib.ListN.{get_or}
 use Rattle.ir.specs.Classes.{class_count, folding_of}
 use Rattle.ir.specs.declared.Folding.{Folding}
 use Rattle.ir.specs.declared.Folding.TheVariants.{Never, Literal, Microchip, Select, Branch, Unary, Binary, Ternary}
-
--- n is none of the numbers below m
-abbrev pub NoneOf : ℕ → ℕ → Type 0
-NoneOf zero n = Unit {0}
-NoneOf (suc m) n = NoneOf m n × (n ≡ m → ⊥)
-
-pub above : (m n : ℕ) → NoneOf m n → m ≤ n
-above zero n h = zero-le
-above (suc m) n h = lt_of_le-ne (above m n h.0) (λ e. h.1 (sym e))
 
 -- a table of n entries, each by its place from i on
 abbrev ruled : {A : Type 0} → (ℕ → A) → ℕ → ℕ → List A
@@ -39,7 +29,7 @@ is_unary class = eqb class 15 || (leb 23 class && leb class 25) || (leb 30 class
 abbrev rule : ℕ → Folding
 rule k = cond (ltb k 6) (get_or (Never ∷ Literal ∷ Microchip ∷ Microchip ∷ Select ∷ Branch ∷ []) k Never) (cond (eqb k 28) Ternary (cond (is_unary k) Unary Binary))
 
-pub folding : (k : ℕ) → k < class_count → folding_of k ≡ rule k
+folding : (k : ℕ) → k < class_count → folding_of k ≡ rule k
 folding k h = entry rule Never 0 class_count k h ∙ ap rule (zero-add k)
 
 -- the gates by how many inputs they have

@@ -1,6 +1,5 @@
 -- Document 01, "Classes: 0 any other, never folded; 1 Literal; ..".
-use Rattle.std.specs.Prelude.{ℕ, Bool, true, false, cond, ◌||◌, ◌&&◌, List, [], ◌∷◌, length, get_or, ltb, leb, eqb}
-use Rattle.std.proofs.Math.Option.{Option, none, some}
+use Rattle.std.specs.Prelude.{ℕ, Bool, true, false, cond, ◌||◌, ◌&&◌, List, [], ◌∷◌, length, get_or, ltb, leb, eqb, Option, None, Some}
 use Rattle.ir.specs.declared.Folding.{Folding}
 use Rattle.ir.specs.declared.Folding.TheVariants.{Never, Literal, Microchip, Select, Branch, Unary, Binary, Ternary}
 use Rattle.ir.specs.Ports.{input_a, input_b, third_input, b_select_b, b_cond, rer_input}
@@ -78,4 +77,4 @@ is_annihilator class = eqb class 12 || eqb class 13
 
 -- the Bool that settles a class: "a false settles it", "a true settles it"
 unfoldable pub settles : ℕ → Option Bool
-settles class = cond (eqb class 12) (some false) (cond (eqb class 13) (some true) none)
+settles class = cond (eqb class 12) (Some false) (cond (eqb class 13) (Some true) None)

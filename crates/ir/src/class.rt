@@ -2,7 +2,7 @@
 ghost use Rattle.std.specs.Prelude.{◌≡◌, ◌<◌};
 ghost use Rattle.ir.specs.Classes.{folding_of, input_count, has_rows, is_class, is_gate, is_order, is_annihilator};
 
-use crate::{Folding, wide};
+use crate::Folding;
 
 pub const COUNT: usize = 43;
 
@@ -93,7 +93,7 @@ pub const MATH_SQRT: u8 = 42;
 pub fn is_class(class: u8) -> bool
     ensures { result ≡ is_class class }
 {
-    wide(class) < COUNT
+    usize::from(class) < COUNT
 }
 
 // Whether the class is a gate that gives a value.
@@ -107,7 +107,7 @@ pub fn is_gate(class: u8) -> bool
 pub fn is_order(class: u8) -> bool
     ensures { result ≡ is_order class }
 {
-    (COMPARE_LESS <= class) & (class <= COMPARE_GREATER_OR_EQUAL)
+    matches!(class, COMPARE_LESS..=COMPARE_GREATER_OR_EQUAL)
 }
 
 // A class before the gates.
@@ -117,8 +117,7 @@ fn folding_before_gates(class: u8) -> Folding
 {
     match class {
         LITERAL => Folding::Literal,
-        MICROCHIP_INPUT => Folding::Microchip,
-        MICROCHIP_OUTPUT => Folding::Microchip,
+        MICROCHIP_INPUT | MICROCHIP_OUTPUT => Folding::Microchip,
         SELECT => Folding::Select,
         BRANCH => Folding::Branch,
         _ => Folding::Never,
@@ -152,12 +151,8 @@ pub fn input_count(folding: Folding) -> usize
     ensures { result ≡ input_count folding }
 {
     match folding {
-        Folding::Never => 0,
-        Folding::Literal => 0,
-        Folding::Microchip => 1,
-        Folding::Select => 1,
-        Folding::Branch => 1,
-        Folding::Unary => 1,
+        Folding::Never | Folding::Literal => 0,
+        Folding::Microchip | Folding::Select | Folding::Branch | Folding::Unary => 1,
         Folding::Binary => 2,
         Folding::Ternary => 3,
     }
@@ -167,21 +162,15 @@ pub fn input_count(folding: Folding) -> usize
 pub fn has_rows(folding: Folding) -> bool
     ensures { result ≡ has_rows folding }
 {
-    match folding {
-        Folding::Never => false,
-        Folding::Literal => false,
-        Folding::Microchip => false,
-        Folding::Select => true,
-        Folding::Branch => true,
-        Folding::Unary => true,
-        Folding::Binary => true,
-        Folding::Ternary => true,
-    }
+    !matches!(
+        folding,
+        Folding::Never | Folding::Literal | Folding::Microchip
+    )
 }
 
 // Whether the class may have an annihilator record.
 pub fn is_annihilator(class: u8) -> bool
     ensures { result ≡ is_annihilator class }
 {
-    (class == LOGICAL_AND) | (class == LOGICAL_OR)
+    matches!(class, LOGICAL_AND | LOGICAL_OR)
 }

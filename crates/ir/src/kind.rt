@@ -32,19 +32,11 @@ pub fn role_of(kind: u8) -> Role
     ensures { result ≡ role_of kind }
 {
     match kind {
-        0 => Role::Unlisted,
         NODE => Role::Node,
         WIRE => Role::Wire,
-        INT => Role::Property,
-        FLOAT => Role::Property,
-        BOOL => Role::Property,
-        VECTOR => Role::Property,
-        ROTATOR => Role::Property,
-        QUAT => Role::Property,
-        COLOR => Role::Property,
+        INT..=COLOR | TEXT => Role::Property,
         ROW => Role::Row,
         ANNIHILATOR => Role::Annihilator,
-        TEXT => Role::Property,
         _ => Role::Unlisted,
     }
 }
@@ -54,7 +46,6 @@ pub fn body_of(kind: u8) -> usize
     ensures { result ≡ body_of kind }
 {
     match kind {
-        0 => 0,
         NODE => 2,
         WIRE => 6,
         INT => 11,

@@ -2,8 +2,6 @@
 // is the one in specs/; later layers take every such number from this crate.
 #![tactic(auto)]
 
-ghost use Rattle.std.specs.Prelude.{◌≡◌};
-
 pub mod class;
 pub mod flag;
 pub mod kind;
@@ -25,7 +23,7 @@ pub struct Wire {
 }
 
 // How the nodes of a class fold. Unary, Binary and Ternary are the gates of one, two and three inputs.
-#[derive(Clone, Copy)]
+#[derive(Clone, Copy, PartialEq, Eq)]
 pub enum Folding {
     Never,
     Literal,
@@ -38,7 +36,7 @@ pub enum Folding {
 }
 
 // What a record of a kind says.
-#[derive(Clone, Copy)]
+#[derive(Clone, Copy, PartialEq, Eq)]
 pub enum Role {
     Unlisted,
     Node,
@@ -46,10 +44,4 @@ pub enum Role {
     Property,
     Row,
     Annihilator,
-}
-
-fn wide(x: u8) -> usize
-    ensures { result ≡ x }
-{
-    x as usize
 }

@@ -1,6 +1,6 @@
 -- A push and a pop of the queue in its places, and a store of an entry of a map, as the arrays hold them.
+use Rattle.std.specs.Prelude.{Option, None}
 use mathlib.Core.Path.{◌≡◌, refl, sym, ap, ap₂, ◌∙◌, fun_ext}
-use mathlib.Core.Option.{Option, none}
 use mathlib.Core.List.{List, [], ◌∷◌, ◌++◌}
 use mathlib.Core.Logic.{inl, inr, ◌≢◌}
 use Prim.Native.Nat.{ℕ, zero, suc, ◌+◌, ◌*◌, ◌%◌, ◌<◌, ◌≤◌}
@@ -106,7 +106,7 @@ module _ {A : Type 0} (held : ℕ → ℕ → ℕ → ℕ → ℕ → Option A) 
       )
 
   -- where nothing was known of n, the store adds one entry
-  pub store : map_of held ts ns n ≡ none → map_of held (set ts n t) (store_words ns n a b c d) ≡ put (map_of held ts ns) n (held t a b c d)
+  pub store : map_of held ts ns n ≡ None → map_of held (set ts n t) (store_words ns n a b c d) ≡ put (map_of held ts ns) n (held t a b c d)
   unfolding or_else
   store e = fun_ext (λ m. go m (same? m n))
     where

@@ -1,7 +1,7 @@
 -- What an input that folds is: its graph is read, every wire's rewriting ends, and the answer fits.
+use Rattle.std.specs.Prelude.{Option, None, Some}
 use mathlib.Core.Path.{◌≡◌, refl, sym, ◌∙◌}
 use mathlib.Core.Bool.{Bool, true, false, cond}
-use mathlib.Core.Option.{Option, none, some}
 use mathlib.Core.List.{List}
 use Prim.Native.Nat.{ℕ, ◌≤◌}
 use lib.Dec.{leb}
@@ -21,7 +21,7 @@ use Rattle.model.proofs.Refusals.{folds_refuses, at_refusal, at_graph}
 pub record Folding (written : Graph → State → List Wire → List ℕ) (input : List ℕ) (room : ℕ) (a : List ℕ) (k : ℕ) : Type 0 where
   pub ws : List Wire
   pub read : decode input ≡ accepted (graph_of input)
-  pub rewritten : rewrite_wires (plan_of (graph_of input)) (size (graph_of input)) (graph_of input).wires ≡ some ws
+  pub rewritten : rewrite_wires (plan_of (graph_of input)) (size (graph_of input)) (graph_of input).wires ≡ Some ws
   pub bytes : a ≡ written (graph_of input) (fold_of (graph_of input)).state ws
   pub pops : k ≡ (fold_of (graph_of input)).pops
   pub few : length ws ≤ max_wires
@@ -36,8 +36,8 @@ module _ (written : Graph → State → List Wire → List ℕ) (input a : List 
   by_wires : (d : decode input ≡ accepted (graph_of input)) (o : Option (List Wire)) → rewrite_wires (plan_of (graph_of input)) (size (graph_of input)) (graph_of input).wires ≡ o
       → answered written (graph_of input) (fold_of (graph_of input)) room (ending (graph_of input) (plan_of (graph_of input)) o) ≡ folds a k → Folding written input room a k
   unfolding ending answered counted measured
-  by_wires d none q e = folds_refuses e
-  by_wires d (some ws) q e = count (leb (length ws) max_wires) refl e
+  by_wires d None q e = folds_refuses e
+  by_wires d (Some ws) q e = count (leb (length ws) max_wires) refl e
     where
       b : List ℕ
       b = written (graph_of input) (fold_of (graph_of input)).state ws

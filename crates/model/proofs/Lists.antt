@@ -9,6 +9,8 @@ use native.Mathlib.Nat.{not-suc-le-zero}
 use lib.Dec.{eqb}
 use lib.ListN.{length, length-append}
 use borrow.Author.Tests.{eqb-false}
+use Rattle.std.proofs.lemmas.Bool.{or_parts}
+pub use Rattle.std.proofs.lemmas.Bool.{or_right}
 use Rattle.graph.specs.Graph.{member}
 use Rattle.model.specs.Maps.{keep, any, All, Distinct, up_to, iterate}
 use Rattle.model.proofs.Maps.{Same, same?}
@@ -16,12 +18,10 @@ use Rattle.model.proofs.Maps.{Same, same?}
 -- ---- tests
 
 pub or_false_left : (a b : Bool) → (a || b) ≡ false → a ≡ false
-or_false_left true b e = e
-or_false_left false b e = refl
+or_false_left a b e = (or_parts a b e).0
 
 pub or_false_right : (a b : Bool) → (a || b) ≡ false → b ≡ false
-or_false_right true b e = absurd (true≢false e)
-or_false_right false b e = e
+or_false_right a b e = (or_parts a b e).1
 
 -- ---- counting
 
@@ -114,10 +114,6 @@ count_one t (suc n) = go (same? t n) (count_one t n)
     go (inr d) ih = omega (arith, count_append (λ c. eqb t c) (up_to n) (n ∷ []), ap bit d)
 
 -- ---- membership
-
-pub or_right : (a b : Bool) → b ≡ true → (a || b) ≡ true
-or_right true b e = refl
-or_right false b e = e
 
 pub member_append : (m : ℕ) (xs ys : List ℕ) → member m (xs ++ ys) ≡ (member m xs || member m ys)
 unfolding member

@@ -1,7 +1,7 @@
 -- What a node is offered only grows as more is known, and stays once it has a value.
+use Rattle.std.specs.Prelude.{Option, None, Some}
 use mathlib.Core.Path.{◌≡◌, refl, sym, ap, ◌∙◌, fun_ext, subst}
 use mathlib.Core.Bool.{Bool, true, false, cond, ◌&&◌, ◌||◌, false≢true}
-use mathlib.Core.Option.{Option, none, some}
 use mathlib.Core.List.{List, [], ◌∷◌, map}
 use mathlib.Core.Logic.{◌⊎◌, inl, inr}
 use Prim.Native.Nat.{ℕ}
@@ -13,8 +13,6 @@ use Rattle.ir.specs.Ports.{input_a, input_b, b_select_b, b_cond, rer_input}
 use Rattle.ir.specs.declared.Folding.{Folding}
 use Rattle.ir.specs.declared.Wire.{Wire}
 use Rattle.value.specs.declared.Value.{Value}
-use Rattle.value.specs.declared.Operand.{Operand}
-use Rattle.value.specs.declared.OptionValue.{OptionValue}
 use Rattle.conversions.specs.Conversions.{truthy_of}
 use Rattle.semantics.specs.Finite.{non_finite_float}
 use Rattle.semantics.proofs.Laws.{decided}
@@ -37,13 +35,13 @@ i ⊴ j = is_resolved i ≡ true → j ≡ i
 infix 40 ◌≤ₒ◌
 pub record ◌≤ₒ◌ (o p : Offer) : Type 0 where
   pub plans : o.plan ≼ p.plan
-  pub whole : (v : Value) → o.value ≡ some v → p ≡ o
+  pub whole : (v : Value) → o.value ≡ Some v → p ≡ o
 
 -- ---- inputs
 
 carried_mono : (o p : Option Value) → o ≼ p → carried o ⊴ carried p
-carried_mono none p h e = absurd (false≢true e)
-carried_mono (some v) p h e = ap carried (h v refl)
+carried_mono None p h e = absurd (false≢true e)
+carried_mono (Some v) p h e = ap carried (h v refl)
 
 wires_mono : (k l : Map Value) → k ⊑ l → (ws : List Wire) → resolve_wires k ws ⊴ resolve_wires l ws
 unfolding resolve_wires
@@ -103,15 +101,15 @@ chosen_mono (w ∷ v ∷ ws) o p h = nothing_least no_offer
 
 select_mono : (g : Graph) (n : ℕ) (r s : ℕ → Resolved) (c d : Option Bool) → ((p : ℕ) → r p ⊴ s p) → c ≼ d → select_offer g n r c ≤ₒ select_offer g n s d
 unfolding select_offer
-select_mono g n r s none d le h = nothing_least _
-select_mono g n r s (some b) d le h =
+select_mono g n r s None d le h = nothing_least _
+select_mono g n r s (Some b) d le h =
     let p : ℕ = cond b input_b input_a in
     rw (h b refl, select_offer) (chosen_mono (feeds g n p) _ _ (value_mono (r p) (s p) (le p)))
 
 branch_mono : (g : Graph) (n : ℕ) (c d : Option Bool) → c ≼ d → branch_offer g n c ≤ₒ branch_offer g n d
 unfolding branch_offer
-branch_mono g n none d h = nothing_least _
-branch_mono g n (some b) d h = rw (h b refl) (record { plans = λ a e. e; whole = λ v e. refl })
+branch_mono g n None d h = nothing_least _
+branch_mono g n (Some b) d h = rw (h b refl) (record { plans = λ a e. e; whole = λ v e. refl })
 
 valued_mono : (o p : Option Value) → o ≼ p → value_offer o ≤ₒ value_offer p
 unfolding value_offer
@@ -119,14 +117,14 @@ valued_mono o p h = record { plans = λ a e. e; whole = λ v e. ap value_offer (
 
 literal_mono : (o p : Option Value) → o ≼ p → literal_offer o ≤ₒ literal_offer p
 unfolding literal_offer
-literal_mono none p h = nothing_least _
-literal_mono (some v) p h = rw (h v refl) (record { plans = λ a e. e; whole = λ w e. refl })
+literal_mono None p h = nothing_least _
+literal_mono (Some v) p h = rw (h v refl) (record { plans = λ a e. e; whole = λ w e. refl })
 
 condition_mono : (g : Graph) (c : ℕ) (i j : Resolved) → i ⊴ j → resolve_condition g c i ≼ resolve_condition g c j
 unfolding resolve_condition
 condition_mono g c i j h a e = go (is_resolved i) refl e
   where
-    go : (t : Bool) → is_resolved i ≡ t → cond (t && covers g c (operand_of i ∷ [])) (some (truthy_of (operand_of i))) none ≡ some a → resolve_condition g c j ≡ some a
+    go : (t : Bool) → is_resolved i ≡ t → cond (t && covers g c (operand_of i ∷ [])) (Some (truthy_of (operand_of i))) None ≡ Some a → resolve_condition g c j ≡ Some a
     go true q e = rw (h q, q) e
     go false q e = none_some a e
 
@@ -134,63 +132,63 @@ condition_mono g c i j h a e = go (is_resolved i) refl e
 
 settled_mono : (o : Option Bool) (f h : ℕ → Resolved) → ((p : ℕ) → f p ⊴ h p) → (ps : List ℕ) → settled o (map f ps) ≼ settled o (map h ps)
 unfolding settled
-settled_mono none f h le ps a e = e
-settled_mono (some b) f h le ps a e = go (any (holds_bool b) (map f ps)) refl e
+settled_mono None f h le ps a e = e
+settled_mono (Some b) f h le ps a e = go (any (holds_bool b) (map f ps)) refl e
   where
-    go : (t : Bool) → any (holds_bool b) (map f ps) ≡ t → cond t (some (Value.Bool b)) none ≡ some a → settled (some b) (map h ps) ≡ some a
+    go : (t : Bool) → any (holds_bool b) (map f ps) ≡ t → cond t (Some (Value.Bool b)) None ≡ Some a → settled (Some b) (map h ps) ≡ Some a
     go true q e = rw (any_mono b f h le ps q, settled) e
     go false q e = none_some a e
 
-plannable_facts : (o : OptionValue) (v : Value) → plannable o ≡ some v → (o ≡ OptionValue.Some v) × (non_finite_float v ≡ false)
-plannable_facts OptionValue.None v e = none_some v e
-plannable_facts (OptionValue.Some w) v e = go (non_finite_float w) refl e
+plannable_facts : (o : Option Value) (v : Value) → plannable o ≡ Some v → (o ≡ Some v) × (non_finite_float v ≡ false)
+plannable_facts None v e = none_some v e
+plannable_facts (Some w) v e = go (non_finite_float w) refl e
   where
-    go : (t : Bool) → non_finite_float w ≡ t → cond t none (some w) ≡ some v → (OptionValue.Some w ≡ OptionValue.Some v) × (non_finite_float v ≡ false)
+    go : (t : Bool) → non_finite_float w ≡ t → cond t None (Some w) ≡ Some v → (Some w ≡ Some v) × (non_finite_float v ≡ false)
     go true q e = none_some v e
-    go false q e = let x : w ≡ v = cc in (ap OptionValue.Some x, rw x at q)
+    go false q e = let x : w ≡ v = cc in (ap Some x, rw x at q)
 
 -- what is evaluated is given by the gate, and is no non-finite Float
-pub evaluated_facts : (g : Graph) (c : ℕ) (is : List Resolved) (v : Value) → evaluated g c is ≡ some v → (eval_at c (map operand_of is) ≡ OptionValue.Some v) × (non_finite_float v ≡ false)
+pub evaluated_facts : (g : Graph) (c : ℕ) (is : List Resolved) (v : Value) → evaluated g c is ≡ Some v → (eval_at c (map operand_of is) ≡ Some v) × (non_finite_float v ≡ false)
 unfolding evaluated
 evaluated_facts g c is v e = go (all_resolved is && covers g c (map operand_of is)) e
   where
-    go : (t : Bool) → cond t (plannable (eval_at c (map operand_of is))) none ≡ some v → (eval_at c (map operand_of is) ≡ OptionValue.Some v) × (non_finite_float v ≡ false)
+    go : (t : Bool) → cond t (plannable (eval_at c (map operand_of is))) None ≡ Some v → (eval_at c (map operand_of is) ≡ Some v) × (non_finite_float v ≡ false)
     go true e = plannable_facts _ v e
     go false e = none_some v e
 
 -- an annihilator plans the Bool that settles the class, and some input holds it
-pub settled_facts : (g : Graph) (c : ℕ) (is : List Resolved) (a : Value) → settled (annihilator g c) is ≡ some a
-    → (b : Bool) × (settles c ≡ some b) × (any (holds_bool b) is ≡ true) × (a ≡ Value.Bool b)
+pub settled_facts : (g : Graph) (c : ℕ) (is : List Resolved) (a : Value) → settled (annihilator g c) is ≡ Some a
+    → (b : Bool) × (settles c ≡ Some b) × (any (holds_bool b) is ≡ true) × (a ≡ Value.Bool b)
 unfolding annihilator settled
 settled_facts g c is a e = go (member c g.annihilators) (settles c) refl e
   where
-    last : (b t : Bool) → any (holds_bool b) is ≡ t → settles c ≡ some b → cond t (some (Value.Bool b)) none ≡ some a
-        → (b : Bool) × (settles c ≡ some b) × (any (holds_bool b) is ≡ true) × (a ≡ Value.Bool b)
+    last : (b t : Bool) → any (holds_bool b) is ≡ t → settles c ≡ Some b → cond t (Some (Value.Bool b)) None ≡ Some a
+        → (b : Bool) × (settles c ≡ Some b) × (any (holds_bool b) is ≡ true) × (a ≡ Value.Bool b)
     last b true q f e = (b, f, q, cc)
     last b false q f e = none_some a e
 
-    go : (t : Bool) (o : Option Bool) → settles c ≡ o → settled (cond t o none) is ≡ some a
-        → (b : Bool) × (settles c ≡ some b) × (any (holds_bool b) is ≡ true) × (a ≡ Value.Bool b)
-    go true none f e = none_some a e
-    go true (some b) f e = last b (any (holds_bool b) is) refl f e
+    go : (t : Bool) (o : Option Bool) → settles c ≡ o → settled (cond t o None) is ≡ Some a
+        → (b : Bool) × (settles c ≡ Some b) × (any (holds_bool b) is ≡ true) × (a ≡ Value.Bool b)
+    go true None f e = none_some a e
+    go true (Some b) f e = last b (any (holds_bool b) is) refl f e
     go false o f e = none_some a e
 
-settles_class : (c : ℕ) (b : Bool) → settles c ≡ some b → c ≡ cond b 13 12
+settles_class : (c : ℕ) (b : Bool) → settles c ≡ Some b → c ≡ cond b 13 12
 unfolding settles
 settles_class c b e = go (same? c 12) (same? c 13) e
   where
-    go : Same c 12 → Same c 13 → cond (eqb c 12) (some false) (cond (eqb c 13) (some true) none) ≡ some b → c ≡ cond b 13 12
+    go : Same c 12 → Same c 13 → cond (eqb c 12) (Some false) (cond (eqb c 13) (Some true) None) ≡ Some b → c ≡ cond b 13 12
     go (inl p) q e = let x : false ≡ b = cc (rw p.0 at e) in rw (← x) p.1
     go (inr p) (inl q) e = let x : true ≡ b = cc (rw (p, q.0) at e) in rw (← x) q.1
     go (inr p) (inr q) e = none_some b (rw (p, q) at e)
 
-holds_operand : (b : Bool) (i : Resolved) → holds_bool b i ≡ true → operand_of i ≡ Operand.Known (Value.Bool b)
+holds_operand : (b : Bool) (i : Resolved) → holds_bool b i ≡ true → operand_of i ≡ Some (Value.Bool b)
 holds_operand b Resolved.Unwired e = absurd (false≢true e)
 holds_operand b Resolved.Unresolved e = absurd (false≢true e)
 holds_operand b (Resolved.Known (Value.Int n)) e = absurd (false≢true e)
 holds_operand b (Resolved.Known (Value.Float x)) e = absurd (false≢true e)
-holds_operand true (Resolved.Known (Value.Bool c)) e = ap (λ (t : Bool). Operand.Known (Value.Bool t)) e
-holds_operand false (Resolved.Known (Value.Bool c)) e = ap (λ (t : Bool). Operand.Known (Value.Bool t)) (not-true c e)
+holds_operand true (Resolved.Known (Value.Bool c)) e = ap (λ (t : Bool). Some (Value.Bool t)) e
+holds_operand false (Resolved.Known (Value.Bool c)) e = ap (λ (t : Bool). Some (Value.Bool t)) (not-true c e)
 holds_operand b (Resolved.Known (Value.Vector x y z)) e = absurd (false≢true e)
 holds_operand b (Resolved.Known (Value.Rotator x y z)) e = absurd (false≢true e)
 holds_operand b (Resolved.Known (Value.Quat x y z w)) e = absurd (false≢true e)
@@ -198,20 +196,20 @@ holds_operand b (Resolved.Known (Value.Color x y z w)) e = absurd (false≢true 
 holds_operand b (Resolved.Known (Value.Text x y)) e = absurd (false≢true e)
 
 -- the gate that an annihilator settles gives that Bool
-settling_gives : (b : Bool) (i j : Resolved) → any (holds_bool b) (i ∷ j ∷ []) ≡ true → eval_at (cond b 13 12) (map operand_of (i ∷ j ∷ [])) ≡ OptionValue.Some (Value.Bool b)
+settling_gives : (b : Bool) (i j : Resolved) → any (holds_bool b) (i ∷ j ∷ []) ≡ true → eval_at (cond b 13 12) (map operand_of (i ∷ j ∷ [])) ≡ Some (Value.Bool b)
 unfolding any
-settling_gives b i j e = decided b (operand_of i) (operand_of j) Operand.Unwired (go (holds_bool b i) refl (holds_bool b j) refl e)
+settling_gives b i j e = decided b (operand_of i) (operand_of j) None (go (holds_bool b i) refl (holds_bool b j) refl e)
   where
     go : (s : Bool) → holds_bool b i ≡ s → (t : Bool) → holds_bool b j ≡ t → (s || (t || false)) ≡ true
-        → (operand_of i ≡ Operand.Known (Value.Bool b)) ⊎ (operand_of j ≡ Operand.Known (Value.Bool b))
+        → (operand_of i ≡ Some (Value.Bool b)) ⊎ (operand_of j ≡ Some (Value.Bool b))
     go true p t q e = inl (holds_operand b i p)
     go false p true q e = inr (holds_operand b j q)
     go false p false q e = absurd (false≢true e)
 
 abbrev Gives : (ℕ → Resolved) → Bool → ℕ → Type 0
-Gives h b c = any (holds_bool b) (map h (input_ports (folding_of c))) ≡ true → eval_at c (map operand_of (map h (input_ports (folding_of c)))) ≡ OptionValue.Some (Value.Bool b)
+Gives h b c = any (holds_bool b) (map h (input_ports (folding_of c))) ≡ true → eval_at c (map operand_of (map h (input_ports (folding_of c)))) ≡ Some (Value.Bool b)
 
-settled_gives : (h : ℕ → Resolved) (b : Bool) (c : ℕ) → settles c ≡ some b → Gives h b c
+settled_gives : (h : ℕ → Resolved) (b : Bool) (c : ℕ) → settles c ≡ Some b → Gives h b c
 settled_gives h b c e = subst (Gives h b) (sym (settles_class c b e)) (go b)
   where
     go : (b : Bool) → Gives h b (cond b 13 12)
@@ -229,7 +227,7 @@ settled_wins g c h a e = or_else_right (evaluated g c is) (settled (annihilator 
     agree : evaluated g c is ≼ settled (annihilator g c) is
     agree v w =
         let (b, p, q, r) = settled_facts g c is a e in
-        let y : OptionValue.Some v ≡ OptionValue.Some (Value.Bool b) = sym (evaluated_facts g c is v w).0 ∙ settled_gives h b c p q in
+        let y : Some v ≡ Some (Value.Bool b) = sym (evaluated_facts g c is v w).0 ∙ settled_gives h b c p q in
         cc
 
 gate_unresolved : (g : Graph) (c : ℕ) (is : List Resolved) → all_resolved is ≡ false → gate_value g c is ≡ settled (annihilator g c) is
@@ -242,7 +240,7 @@ gate_mono g c f h le a e = go (all_resolved (map f ps)) refl
     ps : List ℕ
     ps = input_ports (folding_of c)
 
-    go : (t : Bool) → all_resolved (map f ps) ≡ t → gate_value g c (map h ps) ≡ some a
+    go : (t : Bool) → all_resolved (map f ps) ≡ t → gate_value g c (map h ps) ≡ Some a
     go true q = rw (all_mono f h le ps q) e
     go false q = settled_wins g c h a (settled_mono _ f h le ps a (sym (gate_unresolved g c (map f ps) q) ∙ e))
 
@@ -267,8 +265,8 @@ node_mono : (b : Bool) (o : Option Value) (κ : Folding) (g : Graph) (c n : ℕ)
     → cond b no_offer (by_itself o (folding_offer κ g c n r)) ≤ₒ cond b no_offer (by_itself o (folding_offer κ g c n s))
 unfolding by_itself
 node_mono true o κ g c n r s le = nothing_least _
-node_mono false none κ g c n r s le = folding_mono κ g c n r s le
-node_mono false (some v) κ g c n r s le = valued_mono (some v) (some v) (λ a e. e)
+node_mono false None κ g c n r s le = folding_mono κ g c n r s le
+node_mono false (Some v) κ g c n r s le = valued_mono (Some v) (Some v) (λ a e. e)
 
 module _ (own : Map Value) (g : Graph) where
   pub offer_mono : (k l : Map Value) → k ⊑ l → (n : ℕ) → offer own g k n ≤ₒ offer own g l n

@@ -1,7 +1,7 @@
 -- Trials in any order that leave nothing to add end as the worklist does; and the worklist ends, within a pop for each node and each wire.
+use Rattle.std.specs.Prelude.{Option, None, Some}
 use mathlib.Core.Path.{◌≡◌, refl, sym, ap, ◌∙◌}
 use mathlib.Core.Bool.{Bool, true, false, cond, not, ◌&&◌, ◌||◌, true≢false}
-use mathlib.Core.Option.{Option, none, some}
 use mathlib.Core.List.{List, [], ◌∷◌, ◌++◌, append-nil, cons≢nil}
 use mathlib.Core.Logic.{◌⊎◌, inl, inr, ◌↔◌}
 use Prim.Native.Nat.{ℕ, zero, suc, ◌+◌, ◌<◌, ◌≤◌}
@@ -48,7 +48,7 @@ and-true² true false e f = f
 and-true² false b e f = refl
 
 -- nothing is added to what is known where the offer has no value
-unadded : (s : State) (n : ℕ) (o : Offer) → o.value ≡ none → (add s n o).known ≡ s.known
+unadded : (s : State) (n : ℕ) (o : Offer) → o.value ≡ None → (add s n o).known ≡ s.known
 unfolding add
 unadded s n o e = rw e (put_none s.known n)
 
@@ -106,13 +106,13 @@ module _ (own : Map Value) (g : Graph) where
   pub record Good (s : State) : Type 0 where
     pub known_offered : (n : ℕ) → s.known n ≼ (offer own g s.known n).value
     pub plan_offered : (n : ℕ) → s.plan n ≼ (offer own g s.known n).plan
-    pub known_planned : (n : ℕ) (v : Value) → s.known n ≡ some v → (offer own g s.known n).plan ≼ s.plan n
+    pub known_planned : (n : ℕ) (v : Value) → s.known n ≡ Some v → (offer own g s.known n).plan ≼ s.plan n
 
   empty_good : Good empty
   unfolding empty
   empty_good = record { known_offered = λ n a e. none_some a e; plan_offered = λ n a e. none_some a e; known_planned = λ n v e. none_some v e }
 
-  module _ (s : State) (h : Good s) (n : ℕ) (new : s.known n ≡ none) where
+  module _ (s : State) (h : Good s) (n : ℕ) (new : s.known n ≡ None) where
     grown : State
     grown = add s n (offer own g s.known n)
 
@@ -139,7 +139,7 @@ module _ (own : Map Value) (g : Graph) where
     unfolding grown add
     there_plan m d = put_there s.plan n _ m d
 
-    here_planned : (v : Value) → grown.known n ≡ some v → (offer own g grown.known n).plan ≼ grown.plan n
+    here_planned : (v : Value) → grown.known n ≡ Some v → (offer own g grown.known n).plan ≼ grown.plan n
     here_planned v e a f =
         here_plan
         ∙ or_else_right
@@ -165,10 +165,10 @@ module _ (own : Map Value) (g : Graph) where
         p_o m (inl d) a e = (mono m).plans a (rw d.1 (or_else_least _ _ _ (h.plan_offered n) (λ b f. f) a (sym here_plan ∙ (rw d.1 at e))))
         p_o m (inr d) a e = (mono m).plans a (h.plan_offered m a (sym (there_plan m d) ∙ e))
 
-        k_p : (m : ℕ) → Same m n → (v : Value) → grown.known m ≡ some v → (offer own g grown.known m).plan ≼ grown.plan m
+        k_p : (m : ℕ) → Same m n → (v : Value) → grown.known m ≡ Some v → (offer own g grown.known m).plan ≼ grown.plan m
         k_p m (inl d) v e a f = rw d.1 (here_planned v (rw d.1 at e) a (rw d.1 at f))
         k_p m (inr d) v e a f =
-            let was : s.known m ≡ some v = sym (there_known m d) ∙ e in
+            let was : s.known m ≡ Some v = sym (there_known m d) ∙ e in
             there_plan m d ∙ h.known_planned m v was a (ap (λ (o : Offer). o.plan) (sym ((mono m).whole v (h.known_offered m v was))) ∙ f)
 
   trial_good : (s : State) → Good s → (n : ℕ) → Good (trial own g s n)
@@ -201,9 +201,9 @@ module _ (own : Map Value) (g : Graph) where
   fixed : (w : State) → ((n : ℕ) → Calm w n) → Fixed w
   fixed w c = record { values = λ n. (c n).value; plans = λ n. (c n).plan }
 
-  known_calm : (s : State) → Good s → (n : ℕ) (v : Value) → s.known n ≡ some v → Calm s n
+  known_calm : (s : State) → Good s → (n : ℕ) (v : Value) → s.known n ≡ Some v → Calm s n
   known_calm s h n v e =
-      record { value = λ a f. (let x : (offer own g s.known n).value ≡ some v = h.known_offered n v e in cc); plan = h.known_planned n v e }
+      record { value = λ a f. (let x : (offer own g s.known n).value ≡ Some v = h.known_offered n v e in cc); plan = h.known_planned n v e }
 
   quiet_calm : (s : State) → Good s → (n : ℕ) → trial own g s n ≡ s → Calm s n
   unfolding trial add
@@ -255,7 +255,7 @@ module _ (own : Map Value) (g : Graph) where
       go : (b : Bool) → is_some (s.known n) ≡ b → (not b && is_some ((cond b s (add s n o)).known n)) ≡ false → (cond b s (add s n o)).known ≡ s.known
       go true f e = refl
       go false f e =
-          let z : or_else (s.known n) o.value ≡ none = sym (put_here s.known n o.value) ∙ some_false _ e in
+          let z : or_else (s.known n) o.value ≡ None = sym (put_here s.known n o.value) ∙ some_false _ e in
           rw (or_else_none (s.known n) o.value z) (put_none s.known n)
 
   -- a trial changes what is known at its node alone
@@ -276,15 +276,15 @@ module _ (own : Map Value) (g : Graph) where
       }
 
   -- a node that was just tried is calm
-  added_calm : (s : State) → Good s → (n : ℕ) → s.known n ≡ none → (x : Option Value) → (offer own g s.known n).value ≡ x → Calm (add s n (offer own g s.known n)) n
+  added_calm : (s : State) → Good s → (n : ℕ) → s.known n ≡ None → (x : Option Value) → (offer own g s.known n).value ≡ x → Calm (add s n (offer own g s.known n)) n
   unfolding grown
-  added_calm s h n e none f =
+  added_calm s h n e None f =
       let same : offer own g (add s n (offer own g s.known n)).known n ≡ offer own g s.known n = ap (λ (k : Map Value). offer own g k n) (unadded s n _ f) in
       record {
         value = λ a q. none_some a (sym f ∙ sym (ap (λ (o : Offer). o.value) same) ∙ q);
         plan = λ a q. here_plan s h n e ∙ or_else_right _ _ (h.plan_offered n) a (sym (ap (λ (o : Offer). o.plan) same) ∙ q);
       }
-  added_calm s h n e (some v) f = known_calm _ (add_good s h n e) n v (here_known s h n e ∙ f)
+  added_calm s h n e (Some v) f = known_calm _ (add_good s h n e) n v (here_known s h n e ∙ f)
 
   tried_calm : (s : State) → Good s → (n : ℕ) → Calm (trial own g s n) n
   unfolding trial
@@ -464,7 +464,7 @@ module _ (own : Map Value) (g : Graph) where
           (work_below (trials own g empty ns) (stable_fixed _ (trials_good empty empty_good ns) q))
 
   -- planned nodes are nodes
-  pub planned_below : (n : ℕ) (q : PlanAction) → (worklist own g).state.plan n ≡ some q → n < size g
+  pub planned_below : (n : ℕ) (q : PlanAction) → (worklist own g).state.plan n ≡ Some q → n < size g
   unfolding no_offer
   planned_below n q e = go (dec_lt n (size g))
     where

@@ -1,7 +1,7 @@
 -- With nothing set, nodes are by themselves what the graph's Literals are.
+use Rattle.std.specs.Prelude.{Option, None, Some}
 use mathlib.Core.Path.{◌≡◌, refl, ap, ◌∙◌, fun_ext}
 use mathlib.Core.Bool.{Bool, true, false, cond}
-use mathlib.Core.Option.{Option, none, some}
 use mathlib.Core.List.{List}
 use Prim.Native.Nat.{ℕ, zero, suc}
 use lib.ListN.{get_or, replicate}
@@ -15,13 +15,13 @@ pub own_none : (g : Graph) (own : List ℕ) → ((n : ℕ) → get_or own n set_
 unfolding own_of or_else
 own_none g own h = fun_ext (λ n. at n)
   where
-    alone : (o : Option Value) (b : Bool) → or_else o (cond b none none) ≡ o
-    alone none true = refl
-    alone none false = refl
-    alone (some v) b = refl
+    alone : (o : Option Value) (b : Bool) → or_else o (cond b None None) ≡ o
+    alone None true = refl
+    alone None false = refl
+    alone (Some v) b = refl
 
     at : (n : ℕ) → own_of g own n ≡ literals g n
-    at n = ap (λ (s : ℕ). or_else (literals g n) (cond (is_free_input g n) (setting_of s) none)) (h n) ∙ alone (literals g n) (is_free_input g n)
+    at n = ap (λ (s : ℕ). or_else (literals g n) (cond (is_free_input g n) (setting_of s) None)) (h n) ∙ alone (literals g n) (is_free_input g n)
 
 -- an array in which nothing is set
 pub own_zeros : (g : Graph) (k : ℕ) → own_of g (replicate k set_nothing) ≡ literals g

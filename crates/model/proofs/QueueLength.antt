@@ -1,7 +1,7 @@
 -- The waiting nodes are distinct nodes that are not known, so there are never more of them than places.
+use Rattle.std.specs.Prelude.{None}
 use mathlib.Core.Path.{◌≡◌, refl, sym, ◌∙◌}
 use mathlib.Core.Bool.{Bool, true, false, cond, not, ◌&&◌, ◌||◌, true≢false}
-use mathlib.Core.Option.{none}
 use mathlib.Core.List.{List, [], ◌∷◌, ◌++◌, append-nil}
 use mathlib.Core.Logic.{inl, inr, ◌≢◌}
 use Prim.Native.Nat.{ℕ, zero, suc, ◌<◌, ◌≤◌}
@@ -81,18 +81,18 @@ up_to_distinct (suc n) = distinct_more (up_to n) n (up_to_distinct n) (up_to_out
 pub finds_place : (queue : List ℕ) (c : ℕ) → Distinct queue → All (λ x. x < queue_places) queue → c < queue_places → member c queue ≡ false → length queue < queue_places
 finds_place queue c d b l m = distinct_below queue_places (c ∷ queue) (m, d) (l, b)
 
-all_none : (xs : List ℕ) → All (λ x. empty.known x ≡ none) xs
+all_none : (xs : List ℕ) → All (λ x. empty.known x ≡ None) xs
 unfolding empty
 all_none [] = tt
 all_none (x ∷ xs) = (refl, all_none xs)
 
 -- each of the nodes of a graph has a place
 module _ (own : Map Value) (g : Graph) (few : size g ≤ queue_places) where
-  waits : (w : Work) → Distinct w.queue → All (λ c. c < size g) w.queue → All (λ c. w.state.known c ≡ none) w.queue → Waiting g w
+  waits : (w : Work) → Distinct w.queue → All (λ c. c < size g) w.queue → All (λ c. w.state.known c ≡ None) w.queue → Waiting g w
   waits w d b u = record { once = d; nodes = b; places = omega (arith, distinct_below (size g) w.queue d b); unknown = u }
 
   -- a trial makes none of the others known
-  stays : (s : State) (n : ℕ) (queue : List ℕ) → member n queue ≡ false → All (λ x. s.known x ≡ none) queue → All (λ x. (trial own g s n).known x ≡ none) queue
+  stays : (s : State) (n : ℕ) (queue : List ℕ) → member n queue ≡ false → All (λ x. s.known x ≡ None) queue → All (λ x. (trial own g s n).known x ≡ None) queue
   unfolding member
   stays s n [] m u = tt
   stays s n (x ∷ xs) m u = (elsewhere own g s n x (or_false_left (eqb x n) _ m) ∙ u.0, stays s n xs (or_false_right (eqb x n) _ m) u.1)
@@ -117,10 +117,10 @@ module _ (own : Map Value) (g : Graph) (few : size g ≤ queue_places) where
       out : (y : ℕ) → f y ≡ true → member y queue ≡ false
       out y q = not-true (member y queue) (and_right (consumes g n y && not (is_some (t.known y))) (not (member y queue)) q)
 
-      new : (y : ℕ) → f y ≡ true → t.known y ≡ none
+      new : (y : ℕ) → f y ≡ true → t.known y ≡ None
       new y q = some_false (t.known y) (not-true (is_some (t.known y)) (and_right (consumes g n y) (not (is_some (t.known y))) (and_left (consumes g n y && not (is_some (t.known y))) (not (member y queue)) q)))
 
-      still : All (λ x. t.known x ≡ none) queue
+      still : All (λ x. t.known x ≡ None) queue
       still = stays s n queue h.once.0 h.unknown.1
 
       go : (b : Bool) → Waiting g (record { queue = queue ++ cond b (keep f (up_to (size g))) []; state = t; pops = suc pops })
@@ -128,7 +128,7 @@ module _ (own : Map Value) (g : Graph) (few : size g ≤ queue_places) where
           waits _
           (distinct_append queue _ h.once.1 (distinct_keep f (up_to (size g)) (up_to_distinct (size g))) (each (λ y. member y queue ≡ false) (λ y l q. out y q)))
           (all_append (λ x. x < size g) queue _ h.nodes.1 (each (λ x. x < size g) (λ y l q. l)))
-          (all_append (λ x. t.known x ≡ none) queue _ still (each (λ x. t.known x ≡ none) (λ y l q. new y q)))
+          (all_append (λ x. t.known x ≡ None) queue _ still (each (λ x. t.known x ≡ None) (λ y l q. new y q)))
       go false = waits _ (rw append-nil h.once.1) (rw append-nil h.nodes.1) (rw append-nil still)
 
   -- after however many pops

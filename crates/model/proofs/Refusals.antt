@@ -1,7 +1,7 @@
 -- An input is refused with a number and a place exactly in document 01's case for it.
+use Rattle.std.specs.Prelude.{Option, None, Some}
 use mathlib.Core.Path.{◌≡◌, refl, sym, ◌∙◌, subst₂}
 use mathlib.Core.Bool.{Bool, true, false, cond}
-use mathlib.Core.Option.{Option, none, some}
 use mathlib.Core.List.{List}
 use mathlib.Core.Logic.{◌⊎◌, inl, inr, ◌↔◌}
 use Prim.Native.Nat.{ℕ, ◌<◌, ◌≤◌}
@@ -48,8 +48,8 @@ module _ (bytes : Graph → State → List Wire → List ℕ) (input : List ℕ)
   wires_case : (g : Graph) → decode input ≡ accepted g → (n p : ℕ) (o : Option (List Wire)) → rewrite_wires (plan_of g) (size g) g.wires ≡ o
       → answered bytes g (fold_of g) room (ending g (plan_of g) o) ≡ refuses n p → RefusedBy bytes input room n p
   unfolding ending answered counted measured
-  wires_case g d n p none q e = case (RefusedBy.rewriting d (first_endless (plan_of g) (size g) (planned_below (literals g) g) g.wires q)) e
-  wires_case g d n p (some ws) q e = count (leb (length ws) max_wires) refl e
+  wires_case g d n p None q e = case (RefusedBy.rewriting d (first_endless (plan_of g) (size g) (planned_below (literals g) g) g.wires q)) e
+  wires_case g d n p (Some ws) q e = count (leb (length ws) max_wires) refl e
     where
       a : List ℕ
       a = bytes g (fold_of g).state ws

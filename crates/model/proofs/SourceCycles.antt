@@ -1,7 +1,7 @@
 -- A wire's source is found within as many Selects as there are nodes exactly when no chain of sources reaches one planned Select twice.
+use Rattle.std.specs.Prelude.{Option, None, Some}
 use mathlib.Core.Path.{◌≡◌, refl, sym, ap, ◌∙◌, subst}
 use mathlib.Core.Bool.{true, ◌||◌, false≢true}
-use mathlib.Core.Option.{Option, none, some}
 use mathlib.Core.List.{List, [], ◌∷◌}
 use mathlib.Core.Logic.{◌⊎◌, inl, inr, ◌↔◌}
 use Prim.Native.Nat.{ℕ, zero, suc, ◌+◌, ◌<◌, ◌≤◌}
@@ -63,10 +63,10 @@ module _ (p : Map PlanAction) where
 
   leave_cycles : (f : PortRef → Source) (e : PortRef) (o : Option PlanAction) → p e.node_id ≡ o → leave f o e ≡ cycles → (s : PortRef) × Passes p e s × (f s ≡ cycles)
   unfolding leave
-  leave_cycles f e none q r = absurd (subst Ends r tt)
-  leave_cycles f e (some (BecomeLiteral v)) q r = absurd (subst Ends r tt)
-  leave_cycles f e (some (ShortCircuit s)) q r = (s, q, r)
-  leave_cycles f e (some (Truncate ts)) q r = absurd (subst Ends r tt)
+  leave_cycles f e None q r = absurd (subst Ends r tt)
+  leave_cycles f e (Some (BecomeLiteral v)) q r = absurd (subst Ends r tt)
+  leave_cycles f e (Some (ShortCircuit s)) q r = (s, q, r)
+  leave_cycles f e (Some (Truncate ts)) q r = absurd (subst Ends r tt)
 
   record Passed (a e : PortRef) (x : ℕ) : Type 0 where
     place : PortRef
@@ -91,7 +91,7 @@ module _ (p : Map PlanAction) where
           record { twice = h.0.place; after = h.0.after; again = e; there = h.0.there; passes = h.0.passes; back = h.0.back; same = sym d.1 ∙ sym h.0.at }
       go (inr d) m ih = ih (rw d at m)
 
-  module _ (n : ℕ) (small : (x : ℕ) (q : PlanAction) → p x ≡ some q → x < n) where
+  module _ (n : ℕ) (small : (x : ℕ) (q : PlanAction) → p x ≡ Some q → x < n) where
     long : (k : ℕ) (a e : PortRef) → Sources p a e → (xs : List ℕ) → Distinct xs → All (λ x. x < n) xs → All (Passed a e) xs → n ≤ length xs + k → follow p k e ≡ cycles → SourceCycle p a
     unfolding follow
     long zero a e c xs d b h l r =

@@ -1,7 +1,7 @@
 -- The table of counts says how many unplanned targets there are.
+use Rattle.std.specs.Prelude.{Option, None, Some}
 use mathlib.Core.Path.{◌≡◌, refl, sym, ap, ap₂, ◌∙◌}
 use mathlib.Core.Bool.{Bool, true, false, cond}
-use mathlib.Core.Option.{Option, none, some}
 use mathlib.Core.List.{List, [], ◌∷◌, ◌++◌}
 use Prim.Native.Nat.{ℕ, zero, suc, ◌≤◌}
 use native.Mathlib.Omega.{arith}
@@ -18,9 +18,9 @@ use Rattle.model.proofs.Maps.{none_some, ◌≼◌}
 
 pub capped_both : (o q : Option (List PortRef)) → capped_length (both o q) ≡ plus (capped_length o) (capped_length q)
 unfolding capped_length both plus cap
-capped_both none q = refl
-capped_both (some xs) none = refl
-capped_both (some xs) (some ys) = ap some (omega (arith, length-append xs ys))
+capped_both None q = refl
+capped_both (Some xs) None = refl
+capped_both (Some xs) (Some ys) = ap Some (omega (arith, length-append xs ys))
 
 capped_collect : (f : PortRef → Option (List PortRef)) (h : PortRef → Option ℕ) → ((e : PortRef) → capped_length (f e) ≡ h e) → (es : List PortRef) → capped_length (collect f es) ≡ total h es
 unfolding collect total
@@ -29,21 +29,21 @@ capped_collect f h q (e ∷ es) = capped_both (f e) (collect f es) ∙ ap₂ plu
 
 module _ (p : Map PlanAction) where
   -- the table after k rounds holds the counts of what k Branches reach
-  count_arrive : (f : List PortRef → Option (List PortRef)) (table : ℕ → Option ℕ) (e : PortRef) → ((ts : List PortRef) → p e.node_id ≡ some (Truncate ts) → capped_length (f ts) ≡ table e.node_id)
+  count_arrive : (f : List PortRef → Option (List PortRef)) (table : ℕ → Option ℕ) (e : PortRef) → ((ts : List PortRef) → p e.node_id ≡ Some (Truncate ts) → capped_length (f ts) ≡ table e.node_id)
       → (o : Option PlanAction) → p e.node_id ≡ o → capped_length (arrive f o e) ≡ count_at table o e
   unfolding arrive count_at capped_length cap
-  count_arrive f table e h none q = refl
-  count_arrive f table e h (some (BecomeLiteral v)) q = refl
-  count_arrive f table e h (some (ShortCircuit s)) q = refl
-  count_arrive f table e h (some (Truncate ts)) q = go (eqb e.port exec)
+  count_arrive f table e h None q = refl
+  count_arrive f table e h (Some (BecomeLiteral v)) q = refl
+  count_arrive f table e h (Some (ShortCircuit s)) q = refl
+  count_arrive f table e h (Some (Truncate ts)) q = go (eqb e.port exec)
     where
-      go : (b : Bool) → capped_length (cond b (f ts) (some [])) ≡ cond b (table e.node_id) (some 0)
+      go : (b : Bool) → capped_length (cond b (f ts) (Some [])) ≡ cond b (table e.node_id) (Some 0)
       go true = h ts q
       go false = refl
 
   pub counts_right : (k : ℕ) (e : PortRef) → capped_length (reach p k e) ≡ count_at (rounds p k) (p e.node_id) e
   unfolding reach rounds round taken_targets capped_length
-  counts_right zero e = count_arrive (λ ts. none) (rounds p zero) e (λ ts q. refl) _ refl
+  counts_right zero e = count_arrive (λ ts. None) (rounds p zero) e (λ ts q. refl) _ refl
   counts_right (suc k) e =
       count_arrive
       (λ ts. collect (reach p k) ts)
@@ -53,19 +53,19 @@ module _ (p : Map PlanAction) where
       _
       refl
 
-pub both_some : {A : Type 0} (o q : Option (List A)) (xs : List A) → both o q ≡ some xs → (ys zs : List A) × (o ≡ some ys) × (q ≡ some zs) × (xs ≡ ys ++ zs)
+pub both_some : {A : Type 0} (o q : Option (List A)) (xs : List A) → both o q ≡ Some xs → (ys zs : List A) × (o ≡ Some ys) × (q ≡ Some zs) × (xs ≡ ys ++ zs)
 unfolding both
-both_some none q xs e = none_some xs e
-both_some (some ys) none xs e = none_some xs e
-both_some (some ys) (some zs) xs e = (ys, zs, refl, refl, cc)
+both_some None q xs e = none_some xs e
+both_some (Some ys) None xs e = none_some xs e
+both_some (Some ys) (Some zs) xs e = (ys, zs, refl, refl, cc)
 
 -- ---- more Branches allowed change nothing where fewer were enough
 
 both_more : {A : Type 0} (o o' q q' : Option (List A)) → o ≼ o' → q ≼ q' → both o q ≼ both o' q'
 unfolding both
-both_more none o' q q' h k a e = none_some a e
-both_more (some xs) o' none q' h k a e = none_some a e
-both_more (some xs) o' (some ys) q' h k a e = rw (h xs refl, k ys refl, both) e
+both_more None o' q q' h k a e = none_some a e
+both_more (Some xs) o' None q' h k a e = none_some a e
+both_more (Some xs) o' (Some ys) q' h k a e = rw (h xs refl, k ys refl, both) e
 
 pub collect_more : {A B : Type 0} (f h : A → Option (List B)) → ((x : A) → f x ≼ h x) → (xs : List A) → collect f xs ≼ collect h xs
 unfolding collect
@@ -74,18 +74,18 @@ collect_more f h le (x ∷ xs) a e = both_more (f x) (h x) (collect f xs) (colle
 
 arrive_more : (f h : List PortRef → Option (List PortRef)) → ((ts : List PortRef) → f ts ≼ h ts) → (o : Option PlanAction) (e : PortRef) → arrive f o e ≼ arrive h o e
 unfolding arrive
-arrive_more f h le none e a q = q
-arrive_more f h le (some (BecomeLiteral v)) e a q = q
-arrive_more f h le (some (ShortCircuit s)) e a q = q
-arrive_more f h le (some (Truncate ts)) e a q = go (eqb e.port exec) q
+arrive_more f h le None e a q = q
+arrive_more f h le (Some (BecomeLiteral v)) e a q = q
+arrive_more f h le (Some (ShortCircuit s)) e a q = q
+arrive_more f h le (Some (Truncate ts)) e a q = go (eqb e.port exec) q
   where
-    go : (b : Bool) → cond b (f ts) (some []) ≡ some a → cond b (h ts) (some []) ≡ some a
+    go : (b : Bool) → cond b (f ts) (Some []) ≡ Some a → cond b (h ts) (Some []) ≡ Some a
     go true q = le ts a q
     go false q = q
 
 pub reach_suc : (p : Map PlanAction) (k : ℕ) (e : PortRef) → reach p k e ≼ reach p (suc k) e
 unfolding reach
-reach_suc p zero e = arrive_more (λ ts. none) _ (λ ts a q. none_some a q) (p e.node_id) e
+reach_suc p zero e = arrive_more (λ ts. None) _ (λ ts a q. none_some a q) (p e.node_id) e
 reach_suc p (suc k) e = arrive_more _ _ (λ ts. collect_more (reach p k) (reach p (suc k)) (reach_suc p k) ts) (p e.node_id) e
 
 pub reach_more : (p : Map PlanAction) (i k : ℕ) → i ≤ k → (e : PortRef) → reach p i e ≼ reach p k e
@@ -94,7 +94,7 @@ reach_more p i k h e = le_ind (λ m. reach p i e ≼ reach p m e) (λ a q. q) (�
 -- a scan adds the counts up from the left
 pub plus_assoc : (a b c : Option ℕ) → plus a (plus b c) ≡ plus (plus a b) c
 unfolding plus cap
-plus_assoc none b c = refl
-plus_assoc (some l) none c = refl
-plus_assoc (some l) (some m) none = refl
-plus_assoc (some l) (some m) (some n) = ap some (omega arith)
+plus_assoc None b c = refl
+plus_assoc (Some l) None c = refl
+plus_assoc (Some l) (Some m) None = refl
+plus_assoc (Some l) (Some m) (Some n) = ap Some (omega arith)

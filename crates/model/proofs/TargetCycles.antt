@@ -1,7 +1,7 @@
 -- A wire's targets are found within as many Branches as there are nodes exactly when no chain of targets enters one planned Branch twice.
+use Rattle.std.specs.Prelude.{Option, None, Some}
 use mathlib.Core.Path.{◌≡◌, refl, sym, ap, ◌∙◌}
 use mathlib.Core.Bool.{Bool, true, false, cond, ◌||◌, false≢true}
-use mathlib.Core.Option.{Option, none, some}
 use mathlib.Core.List.Memᴰ
 use mathlib.Core.List.{List, [], ◌∷◌, ◌++◌, Memᴰ}
 use mathlib.Core.Logic.{◌⊎◌, inl, inr, ◌↔◌}
@@ -21,25 +21,25 @@ use Rattle.model.proofs.TargetCounts.{both_some}
 
 -- ---- chains
 
-collect_each : {A B : Type 0} (f : A → Option (List B)) (ts : List A) (xs : List B) → collect f ts ≡ some xs → (t : A) → Memᴰ t ts → (ys : List B) × (f t ≡ some ys)
+collect_each : {A B : Type 0} (f : A → Option (List B)) (ts : List A) (xs : List B) → collect f ts ≡ Some xs → (t : A) → Memᴰ t ts → (ys : List B) × (f t ≡ Some ys)
 unfolding collect
 collect_each f [] xs e t m = absurd (Memᴰ.not-nil m)
 collect_each {A} {B} f (x ∷ ts) xs e t m = go (Memᴰ.cases_cons m) (collect_each f ts)
   where
-    go : (t ≡ x) ⊎ Memᴰ t ts → ((xs : List B) → collect f ts ≡ some xs → (t : A) → Memᴰ t ts → (ys : List B) × (f t ≡ some ys)) → (ys : List B) × (f t ≡ some ys)
+    go : (t ≡ x) ⊎ Memᴰ t ts → ((xs : List B) → collect f ts ≡ Some xs → (t : A) → Memᴰ t ts → (ys : List B) × (f t ≡ Some ys)) → (ys : List B) × (f t ≡ Some ys)
     go (inl q) ih = let (ys, zs, r, s, u) = both_some _ _ xs e in (ys, ap f q ∙ r)
     go (inr k) ih = let (ys, zs, r, s, u) = both_some _ _ xs e in ih zs s t k
 
 -- one that gives nothing
-collect_none : {A B : Type 0} (f : A → Option (List B)) (ts : List A) → collect f ts ≡ none → (t : A) × Memᴰ t ts × (f t ≡ none)
+collect_none : {A B : Type 0} (f : A → Option (List B)) (ts : List A) → collect f ts ≡ None → (t : A) × Memᴰ t ts × (f t ≡ None)
 unfolding collect both
 collect_none f [] e = none_some [] (sym e)
 collect_none {A} {B} f (x ∷ ts) e = go (f x) refl (collect f ts) refl e (collect_none f ts)
   where
-    go : (o : Option (List B)) → f x ≡ o → (q : Option (List B)) → collect f ts ≡ q → both o q ≡ none → (collect f ts ≡ none → (t : A) × Memᴰ t ts × (f t ≡ none)) → (t : A) × Memᴰ t (x ∷ ts) × (f t ≡ none)
-    go none r q s e ih = (x, Memᴰ.head refl, r)
-    go (some xs) r none s e ih = let (t, m, z) = ih s in (t, Memᴰ.tail m, z)
-    go (some xs) r (some ys) s e ih = none_some (xs ++ ys) (sym e)
+    go : (o : Option (List B)) → f x ≡ o → (q : Option (List B)) → collect f ts ≡ q → both o q ≡ None → (collect f ts ≡ None → (t : A) × Memᴰ t ts × (f t ≡ None)) → (t : A) × Memᴰ t (x ∷ ts) × (f t ≡ None)
+    go None r q s e ih = (x, Memᴰ.head refl, r)
+    go (Some xs) r None s e ih = let (t, m, z) = ih s in (t, Memᴰ.tail m, z)
+    go (Some xs) r (Some ys) s e ih = none_some (xs ++ ys) (sym e)
 
 module _ (p : Map PlanAction) where
   pub arrive_on : (f : List PortRef → Option (List PortRef)) (e t : PortRef) (s : Enters p e t) → arrive f (p e.node_id) e ≡ f s.taken
@@ -47,12 +47,12 @@ module _ (p : Map PlanAction) where
   arrive_on f e t s = rw (s.planned, s.entered)
 
   -- a step takes one from what is left
-  reach_step : (k : ℕ) (e t : PortRef) (xs : List PortRef) → reach p k e ≡ some xs → Enters p e t → (j : ℕ) × (suc j ≡ k) × ((ys : List PortRef) × (reach p j t ≡ some ys))
+  reach_step : (k : ℕ) (e t : PortRef) (xs : List PortRef) → reach p k e ≡ Some xs → Enters p e t → (j : ℕ) × (suc j ≡ k) × ((ys : List PortRef) × (reach p j t ≡ Some ys))
   unfolding reach
-  reach_step zero e t xs r s = none_some xs (sym (arrive_on (λ ts. none) e t s) ∙ r)
+  reach_step zero e t xs r s = none_some xs (sym (arrive_on (λ ts. None) e t s) ∙ r)
   reach_step (suc k) e t xs r s = (k, refl, collect_each (reach p k) s.taken xs (sym (arrive_on (λ ts. collect (reach p k) ts) e t s) ∙ r) t s.member)
 
-  reach_chain : {e f : PortRef} → Targets p e f → (k : ℕ) (xs : List PortRef) → reach p k e ≡ some xs → (j : ℕ) × (j ≤ k) × ((ys : List PortRef) × (reach p j f ≡ some ys))
+  reach_chain : {e f : PortRef} → Targets p e f → (k : ℕ) (xs : List PortRef) → reach p k e ≡ Some xs → (j : ℕ) × (j ≤ k) × ((ys : List PortRef) × (reach p j f ≡ Some ys))
   reach_chain Targets.here k xs r = (k, omega arith, (xs, r))
   reach_chain (Targets.step {e = e} {t = t} s c) k xs r =
       let (j, q, w) = reach_step k e t xs r s in
@@ -60,14 +60,14 @@ module _ (p : Map PlanAction) where
       (i, omega arith, z)
 
   -- where the targets run out, no chain goes round
-  round : (b t : PortRef) → Enters p b t → Targets p t b → (n k : ℕ) → k ≤ n → (xs : List PortRef) → reach p k b ≡ some xs → ⊥
+  round : (b t : PortRef) → Enters p b t → Targets p t b → (n k : ℕ) → k ≤ n → (xs : List PortRef) → reach p k b ≡ Some xs → ⊥
   round b t s c zero k l xs r = let (j, q, w) = reach_step k b t xs r s in omega arith
   round b t s c (suc n) k l xs r =
       let (j, q, w) = reach_step k b t xs r s in
       let (i, m, z) = reach_chain c j w.0 w.1 in
       round b t s c n i (omega arith) z.0 z.1
 
-  pub no_target_cycle : (k : ℕ) (e : PortRef) (xs : List PortRef) → reach p k e ≡ some xs → TargetCycle p e → ⊥
+  pub no_target_cycle : (k : ℕ) (e : PortRef) (xs : List PortRef) → reach p k e ≡ Some xs → TargetCycle p e → ⊥
   no_target_cycle k e xs r c =
       let (j, l, z) = reach_chain c.there k xs r in
       round c.twice c.after c.enters c.back j j (omega arith) z.0 z.1
@@ -81,17 +81,17 @@ module _ (p : Map PlanAction) where
   -- e is a planned Branch at exec
   record AtExec (e : PortRef) : Type 0 where
     taken : List PortRef
-    planned : p e.node_id ≡ some (Truncate taken)
+    planned : p e.node_id ≡ Some (Truncate taken)
     entered : e.port ≡ exec
 
-  arrive_none : (f : List PortRef → Option (List PortRef)) (e : PortRef) (o : Option PlanAction) → p e.node_id ≡ o → arrive f o e ≡ none → (n : AtExec e) × (f n.taken ≡ none)
+  arrive_none : (f : List PortRef → Option (List PortRef)) (e : PortRef) (o : Option PlanAction) → p e.node_id ≡ o → arrive f o e ≡ None → (n : AtExec e) × (f n.taken ≡ None)
   unfolding arrive
-  arrive_none f e none q r = none_some (e ∷ []) (sym r)
-  arrive_none f e (some (BecomeLiteral v)) q r = none_some [] (sym r)
-  arrive_none f e (some (ShortCircuit s)) q r = none_some [] (sym r)
-  arrive_none f e (some (Truncate ts)) q r = go (same? e.port exec) r
+  arrive_none f e None q r = none_some (e ∷ []) (sym r)
+  arrive_none f e (Some (BecomeLiteral v)) q r = none_some [] (sym r)
+  arrive_none f e (Some (ShortCircuit s)) q r = none_some [] (sym r)
+  arrive_none f e (Some (Truncate ts)) q r = go (same? e.port exec) r
     where
-      go : Same e.port exec → cond (eqb e.port exec) (f ts) (some []) ≡ none → (n : AtExec e) × (f n.taken ≡ none)
+      go : Same e.port exec → cond (eqb e.port exec) (f ts) (Some []) ≡ None → (n : AtExec e) × (f n.taken ≡ None)
       go (inl d) r = (record { taken = ts; planned = q; entered = d.1 }, rw d.0 at r)
       go (inr d) r = none_some [] (sym (rw d at r))
 
@@ -121,20 +121,20 @@ module _ (p : Map PlanAction) where
           record { twice = h.0.place; after = h.0.after; there = h.0.there; enters = h.0.enters; back = rw q h.0.back }
       go (inr d) m ih = ih (rw d at m)
 
-  module _ (n : ℕ) (small : (x : ℕ) (q : PlanAction) → p x ≡ some q → x < n) where
-    long : (k : ℕ) (a e : PortRef) → Targets p a e → (xs : List ℕ) → Distinct xs → All (λ x. x < n) xs → All (Passed a e) xs → n ≤ length xs + k → reach p k e ≡ none → TargetCycle p a
+  module _ (n : ℕ) (small : (x : ℕ) (q : PlanAction) → p x ≡ Some q → x < n) where
+    long : (k : ℕ) (a e : PortRef) → Targets p a e → (xs : List ℕ) → Distinct xs → All (λ x. x < n) xs → All (Passed a e) xs → n ≤ length xs + k → reach p k e ≡ None → TargetCycle p a
     unfolding reach
     long zero a e c xs d b h l r = go (member e.node_id xs) refl
       where
         at_exec : AtExec e
-        at_exec = (arrive_none (λ ts. none) e _ refl r).0
+        at_exec = (arrive_none (λ ts. None) e _ refl r).0
 
         go : (t : Bool) → member e.node_id xs ≡ t → TargetCycle p a
         go true f = again a e at_exec xs h f
         go false f = let x : ⊥ = omega (arith, distinct_below n (e.node_id ∷ xs) (f, d) (small e.node_id _ at_exec.planned, b)) in absurd x
     long (suc k) a e c xs d b h l r =
         let at_exec : AtExec e = (arrive_none (λ ts. collect (reach p k) ts) e _ refl r).0 in
-        let next : (t : PortRef) × Memᴰ t at_exec.taken × (reach p k t ≡ none) = collect_none (reach p k) at_exec.taken (arrive_none (λ ts. collect (reach p k) ts) e _ refl r).1 in
+        let next : (t : PortRef) × Memᴰ t at_exec.taken × (reach p k t ≡ None) = collect_none (reach p k) at_exec.taken (arrive_none (λ ts. collect (reach p k) ts) e _ refl r).1 in
         let s : Enters p e next.0 = record { taken = at_exec.taken; planned = at_exec.planned; entered = at_exec.entered; member = next.1 } in
         by_bool
         (member e.node_id xs)
@@ -153,9 +153,9 @@ module _ (p : Map PlanAction) where
         next.2)
 
     -- within n Branches: the targets of e run out, or a chain from e enters one Branch twice
-    pub target_cycle : (e : PortRef) → (reach p n e ≡ none) ↔ TargetCycle p e
+    pub target_cycle : (e : PortRef) → (reach p n e ≡ None) ↔ TargetCycle p e
     target_cycle e = (λ r. long n e e Targets.here [] tt tt tt (omega arith) r, λ c. only (reach p n e) refl c)
       where
-        only : (o : Option (List PortRef)) → reach p n e ≡ o → TargetCycle p e → reach p n e ≡ none
-        only none q c = q
-        only (some xs) q c = absurd (no_target_cycle n e xs q c)
+        only : (o : Option (List PortRef)) → reach p n e ≡ o → TargetCycle p e → reach p n e ≡ None
+        only None q c = q
+        only (Some xs) q c = absurd (no_target_cycle n e xs q c)

@@ -1,6 +1,5 @@
 -- When an input is refused and with what, and which wires touch neither a removed node nor a literal.
-use Rattle.std.specs.Prelude.{ℕ, ◌<◌, ◌≡◌, List, ◌⊎◌, length, get_or}
-use Rattle.std.proofs.Math.Option.{Option, none, some}
+use Rattle.std.specs.Prelude.{ℕ, ◌<◌, ◌≡◌, List, ◌⊎◌, length, get_or, Option, None, Some}
 use Rattle.ir.specs.Limits.{max_wires}
 use Rattle.ir.specs.declared.Wire.{Wire}
 use Rattle.graph.specs.Graph.{Graph}
@@ -36,7 +35,7 @@ pub data RefusedBy (bytes : Graph → State → List Wire → List ℕ) (input :
   -- 9: a wire's rewriting does not end
   rewriting : {g : Graph} {i : ℕ} → decode input ≡ accepted g → FirstEndless (plan_of g) g.wires i → RefusedBy bytes input room 9 (wire_offset g i)
   -- 10: every wire's does, and there are too many rewritten wires, or what is written is too long
-  writing : {g : Graph} {ws : List Wire} → decode input ≡ accepted g → rewrite_wires (plan_of g) (size g) g.wires ≡ some ws →
+  writing : {g : Graph} {ws : List Wire} → decode input ≡ accepted g → rewrite_wires (plan_of g) (size g) g.wires ≡ Some ws →
       (max_wires < length ws) ⊎ (room < length (bytes g (fold_of g).state ws)) → RefusedBy bytes input room 10 0
 
 abbrev pub Refused : List ℕ → ℕ → ℕ → ℕ → Type 0
@@ -46,16 +45,16 @@ Refused input room n p = RefusedBy fold_bytes input room n p
 
 -- "no rewritten wire touches a removed node or enters a node that was made literal"
 abbrev pub Removed : Option PlanAction → Type 0
-Removed none = ⊥
-Removed (some (BecomeLiteral v)) = ⊥
-Removed (some (ShortCircuit s)) = Unit {0}
-Removed (some (Truncate ts)) = Unit {0}
+Removed None = ⊥
+Removed (Some (BecomeLiteral v)) = ⊥
+Removed (Some (ShortCircuit s)) = Unit {0}
+Removed (Some (Truncate ts)) = Unit {0}
 
 abbrev pub MadeLiteral : Option PlanAction → Type 0
-MadeLiteral none = ⊥
-MadeLiteral (some (BecomeLiteral v)) = Unit {0}
-MadeLiteral (some (ShortCircuit s)) = ⊥
-MadeLiteral (some (Truncate ts)) = ⊥
+MadeLiteral None = ⊥
+MadeLiteral (Some (BecomeLiteral v)) = Unit {0}
+MadeLiteral (Some (ShortCircuit s)) = ⊥
+MadeLiteral (Some (Truncate ts)) = ⊥
 
 pub record Clean (p : Map PlanAction) (w : Wire) : Type 0 where
   pub source_stays : Removed (p w.source.node_id) → ⊥

@@ -1,11 +1,8 @@
 -- What a node reads at its ports (document 01, "Corners of lower/fold/mod.rs").
-use Rattle.std.specs.Prelude.{ℕ, Bool, true, false, ◌&&◌, List, [], ◌∷◌, map, eqb, length, get_or}
-use Rattle.std.proofs.Math.Option.{Option, none, some}
+use Rattle.std.specs.Prelude.{ℕ, Bool, true, false, ◌&&◌, List, [], ◌∷◌, map, eqb, length, get_or, Option, None, Some}
 use Rattle.ir.specs.declared.PortRef.{PortRef}
 use Rattle.ir.specs.declared.Wire.{Wire}
 use Rattle.value.specs.declared.Value.{Value}
-use Rattle.value.specs.declared.Operand.{Operand}
-use Rattle.value.specs.declared.OptionValue.{OptionValue}
 use Rattle.graph.specs.Graph.{Graph, lookup}
 use Rattle.graph.specs.declared.Node.{Node}
 use Rattle.model.specs.Maps.{Map, keep}
@@ -30,20 +27,16 @@ feeds g n p = keep (λ w. is_port w.target n p) g.wires
 unfoldable pub targets : Graph → ℕ → ℕ → List PortRef
 targets g n p = map (λ w. w.target) (keep (λ w. is_port w.source n p) g.wires)
 
-abbrev pub optional : OptionValue → Option Value
-optional OptionValue.None = none
-optional (OptionValue.Some v) = some v
-
 -- the node's property for a port
 unfoldable pub property : Graph → ℕ → ℕ → Option Value
-property g n p = optional (lookup n p g.properties)
+property g n p = lookup n p g.properties
 
 -- ---- an input
 
 -- "the source's known value, else Unresolved"
 abbrev pub carried : Option Value → Resolved
-carried none = Resolved.Unresolved
-carried (some v) = Resolved.Known v
+carried None = Resolved.Unresolved
+carried (Some v) = Resolved.Known v
 
 -- "One wire: the source's known value ..  Two or more wires: Unresolved always."
 unfoldable pub resolve_wires : Map Value → List Wire → Resolved
@@ -57,8 +50,8 @@ resolve_input g known n = λ p. resolve_wires known (feeds g n p)
 
 -- "A port with no wire takes the node's property for that port, else it is Unwired."
 abbrev pub or_property : Resolved → Option Value → Resolved
-or_property Resolved.Unwired none = Resolved.Unwired
-or_property Resolved.Unwired (some v) = Resolved.Known v
+or_property Resolved.Unwired None = Resolved.Unwired
+or_property Resolved.Unwired (Some v) = Resolved.Known v
 or_property (Resolved.Known v) o = Resolved.Known v
 or_property Resolved.Unresolved o = Resolved.Unresolved
 
@@ -78,12 +71,12 @@ all_resolved [] = true
 all_resolved (i ∷ is) = is_resolved i && all_resolved is
 
 abbrev pub value_in : Resolved → Option Value
-value_in Resolved.Unwired = none
-value_in (Resolved.Known v) = some v
-value_in Resolved.Unresolved = none
+value_in Resolved.Unwired = None
+value_in (Resolved.Known v) = Some v
+value_in Resolved.Unresolved = None
 
 -- the operand of a gate; an Unresolved input is none, and no gate is asked about it
-abbrev pub operand_of : Resolved → Operand
-operand_of Resolved.Unwired = Operand.Unwired
-operand_of (Resolved.Known v) = Operand.Known v
-operand_of Resolved.Unresolved = Operand.Unwired
+abbrev pub operand_of : Resolved → Option Value
+operand_of Resolved.Unwired = None
+operand_of (Resolved.Known v) = Some v
+operand_of Resolved.Unresolved = None

@@ -1,15 +1,14 @@
 -- Partial maps from node numbers, and small functions on lists.
-use Rattle.std.specs.Prelude.{ℕ, zero, suc, ◌≡◌, Bool, true, false, cond, ◌||◌, List, [], ◌∷◌, ◌++◌, eqb}
-use Rattle.std.proofs.Math.Option.{Option, none, some}
+use Rattle.std.specs.Prelude.{ℕ, zero, suc, ◌≡◌, Bool, true, false, cond, ◌||◌, List, [], ◌∷◌, ◌++◌, eqb, Option, None, Some}
 use Rattle.graph.specs.Graph.{member}
 
 unfoldable pub is_some : {A : Type 0} → Option A → Bool
-is_some none = false
-is_some (some a) = true
+is_some None = false
+is_some (Some a) = true
 
 unfoldable pub or_else : {A : Type 0} → Option A → Option A → Option A
-or_else none o = o
-or_else (some a) o = some a
+or_else None o = o
+or_else (Some a) o = Some a
 
 abbrev pub Map : Type 0 → Type 0
 Map A = ℕ → Option A

@@ -1,6 +1,5 @@
 -- What a trial of a node would give, by what is known (document 01, "Corners of lower/fold/mod.rs").
-use Rattle.std.specs.Prelude.{ℕ, Bool, true, false, cond, not, ◌&&◌, List, [], ◌∷◌, map, eqb, get_or}
-use Rattle.std.proofs.Math.Option.{Option, none, some}
+use Rattle.std.specs.Prelude.{ℕ, Bool, true, false, cond, not, ◌&&◌, List, [], ◌∷◌, map, eqb, get_or, Option, None, Some}
 use Rattle.ir.specs.Classes.{folding_of, input_ports, settles}
 use Rattle.ir.specs.Flags.{nofold}
 use Rattle.ir.specs.Ports.{input_a, input_b, b_select_b, b_cond, exec_out_a, exec_out_b, rer_input, value_port}
@@ -9,8 +8,6 @@ use Rattle.ir.specs.declared.PortRef.{PortRef}
 use Rattle.ir.specs.declared.Wire.{Wire}
 use Rattle.value.specs.Variants.{in_variant}
 use Rattle.value.specs.declared.Value.{Value}
-use Rattle.value.specs.declared.Operand.{Operand}
-use Rattle.value.specs.declared.OptionValue.{OptionValue}
 use Rattle.conversions.specs.Conversions.{truthy_of}
 use Rattle.semantics.specs.Eval.{eval_of}
 use Rattle.semantics.specs.Finite.{non_finite_float}
@@ -32,74 +29,74 @@ pub record Offer : Type 0 where
   pub value : Option Value
 
 unfoldable pub no_offer : Offer
-no_offer = record { plan = none; value = none }
+no_offer = record { plan = None; value = None }
 
 -- a value and no plan
 unfoldable pub value_offer : Option Value → Offer
-value_offer o = record { plan = none; value = o }
+value_offer o = record { plan = None; value = o }
 
 -- a value, planned as literal. "The trial that plans a literal .. makes it known too."
 unfoldable pub literal_offer : Option Value → Offer
-literal_offer none = no_offer
-literal_offer (some v) = record { plan = some (BecomeLiteral v); value = some v }
+literal_offer None = no_offer
+literal_offer (Some v) = record { plan = Some (BecomeLiteral v); value = Some v }
 
 -- ---- the table
 
-abbrev pub operand_at : List Operand → ℕ → Operand
-operand_at os i = get_or os i Operand.Unwired
+abbrev pub operand_at : List (Option Value) → ℕ → Option Value
+operand_at os i = get_or os i None
 
 -- the row of a class and its operands; "places past the input count are 0"
-abbrev pub row_of : ℕ → List Operand → Row
+abbrev pub row_of : ℕ → List (Option Value) → Row
 row_of c os = record { class = c; first = in_variant (operand_at os 0); second = in_variant (operand_at os 1); third = in_variant (operand_at os 2) }
 
 abbrev pub same_row : Row → Row → Bool
 same_row q r = eqb q.class r.class && eqb q.first r.first && eqb q.second r.second && eqb q.third r.third
 
 -- "`covers` is membership of the exact row."
-unfoldable pub covers : Graph → ℕ → List Operand → Bool
+unfoldable pub covers : Graph → ℕ → List (Option Value) → Bool
 covers g c os = any (λ q. same_row q (row_of c os)) g.rows
 
 -- ---- Select and Branch
 
 -- "a resolved condition whose one-variant row is in the table": its truth
 unfoldable pub resolve_condition : Graph → ℕ → Resolved → Option Bool
-resolve_condition g c i = cond (is_resolved i && covers g c (operand_of i ∷ [])) (some (truthy_of (operand_of i))) none
+resolve_condition g c i = cond (is_resolved i && covers g c (operand_of i ∷ [])) (Some (truthy_of (operand_of i))) None
 
 -- "exactly one wire at the chosen port .. It is planned ShortCircuit though its source may be unknown"; the source's value is the Select's
 unfoldable pub chosen_offer : List Wire → Option Value → Offer
 chosen_offer [] o = no_offer
-chosen_offer (w ∷ []) o = record { plan = some (ShortCircuit w.source); value = o }
+chosen_offer (w ∷ []) o = record { plan = Some (ShortCircuit w.source); value = o }
 chosen_offer (w ∷ v ∷ ws) o = no_offer
 
 -- "the chosen port: InputB when truthy, else InputA"
 unfoldable pub select_offer : Graph → ℕ → (ℕ → Resolved) → Option Bool → Offer
-select_offer g n r none = no_offer
-select_offer g n r (some b) = let p : ℕ = cond b input_b input_a in chosen_offer (feeds g n p) (value_in (r p))
+select_offer g n r None = no_offer
+select_offer g n r (Some b) = let p : ℕ = cond b input_b input_a in chosen_offer (feeds g n p) (value_in (r p))
 
 -- "Truncate with the wire targets of ExecOutA when truthy, else ExecOutB, in wire order. A Branch is never known."
 unfoldable pub branch_offer : Graph → ℕ → Option Bool → Offer
-branch_offer g n none = no_offer
-branch_offer g n (some b) = record { plan = some (Truncate (targets g n (cond b exec_out_a exec_out_b))); value = none }
+branch_offer g n None = no_offer
+branch_offer g n (Some b) = record { plan = Some (Truncate (targets g n (cond b exec_out_a exec_out_b))); value = None }
 
 -- ---- "Other gates"
 
 -- "a value that isn't a non-finite Float is planned as literal"
-abbrev pub plannable : OptionValue → Option Value
-plannable OptionValue.None = none
-plannable (OptionValue.Some v) = cond (non_finite_float v) none (some v)
+abbrev pub plannable : Option Value → Option Value
+plannable None = None
+plannable (Some v) = cond (non_finite_float v) None (Some v)
 
-abbrev pub eval_at : ℕ → List Operand → OptionValue
+abbrev pub eval_at : ℕ → List (Option Value) → Option Value
 eval_at c os = eval_of c (operand_at os 0) (operand_at os 1) (operand_at os 2)
 
 -- "with no input Unresolved and the row in the table": the gate's value
 unfoldable pub evaluated : Graph → ℕ → List Resolved → Option Value
 evaluated g c is =
-    let os : List Operand = map operand_of is in
-    cond (all_resolved is && covers g c os) (plannable (eval_at c os)) none
+    let os : List (Option Value) = map operand_of is in
+    cond (all_resolved is && covers g c os) (plannable (eval_at c os)) None
 
 -- "where the graph has an annihilator record of the class": the Bool that settles it
 unfoldable pub annihilator : Graph → ℕ → Option Bool
-annihilator g c = cond (member c g.annihilators) (settles c) none
+annihilator g c = cond (member c g.annihilators) (settles c) None
 
 abbrev pub is_bool : Bool → Value → Bool
 is_bool b (Value.Int n) = false
@@ -119,8 +116,8 @@ holds_bool b Resolved.Unresolved = false
 
 -- "one input known as the Bool that settles it plans that same Bool as literal, even with other inputs Unresolved"
 unfoldable pub settled : Option Bool → List Resolved → Option Value
-settled none is = none
-settled (some b) is = cond (any (holds_bool b) is) (some (Value.Bool b)) none
+settled None is = None
+settled (Some b) is = cond (any (holds_bool b) is) (Some (Value.Bool b)) None
 
 -- "Failing that, where the graph has an annihilator record .."
 unfoldable pub gate_value : Graph → ℕ → List Resolved → Option Value
@@ -145,8 +142,8 @@ folding_offer Folding.Ternary g c n r = gate_offer g c n r
 
 -- a node that is a value by itself is known as that value, and gets no plan
 unfoldable pub by_itself : Option Value → Offer → Offer
-by_itself none o = o
-by_itself (some v) o = value_offer (some v)
+by_itself None o = o
+by_itself (Some v) o = value_offer (Some v)
 
 -- "A nofold node is never known or planned, a Literal included."
 unfoldable pub node_offer : Option Value → Node → Graph → ℕ → (ℕ → Resolved) → Offer
@@ -158,14 +155,14 @@ offer own g known n = node_offer (own n) (node_of g n) g n (resolve_input g know
 
 -- "Known is a Literal as its Value"; "A Literal without a Value property is unknown."
 abbrev pub literal_value : Folding → Option Value → Option Value
-literal_value Folding.Never o = none
+literal_value Folding.Never o = None
 literal_value Folding.Literal o = o
-literal_value Folding.Microchip o = none
-literal_value Folding.Select o = none
-literal_value Folding.Branch o = none
-literal_value Folding.Unary o = none
-literal_value Folding.Binary o = none
-literal_value Folding.Ternary o = none
+literal_value Folding.Microchip o = None
+literal_value Folding.Select o = None
+literal_value Folding.Branch o = None
+literal_value Folding.Unary o = None
+literal_value Folding.Binary o = None
+literal_value Folding.Ternary o = None
 
 unfoldable pub literals : Graph → Map Value
 literals g n = literal_value (folding_of (node_of g n).class) (property g n value_port)

@@ -1,6 +1,5 @@
 -- The outcome of an input, in stages: the decoded graph, the worklist, the rewritten wires, the answer (document 01, "Questions at the door").
-use Rattle.std.specs.Prelude.{ℕ, suc, ◌+◌, ◌*◌, cond, List, [], ◌∷◌, ◌++◌, leb, length, drop}
-use Rattle.std.proofs.Math.Option.{Option, none, some}
+use Rattle.std.specs.Prelude.{ℕ, suc, ◌+◌, ◌*◌, cond, List, [], ◌∷◌, ◌++◌, leb, length, drop, Option, None, Some}
 use Rattle.ir.specs.Limits.{max_wires}
 use Rattle.ir.specs.declared.Wire.{Wire}
 use Rattle.value.specs.declared.Value.{Value}
@@ -37,8 +36,8 @@ counted ws = cond (leb (length ws) max_wires) (wires ws) (stops 10 0)
 
 -- 9. "Does each wire's rewriting end .. ? No: 9, place the offset of the first such wire record."
 unfoldable pub ending : Graph → Map PlanAction → Option (List Wire) → Rewriting
-ending g p none = stops 9 (wire_offset g (endless_index p (size g) g.wires))
-ending g p (some ws) = counted ws
+ending g p None = stops 9 (wire_offset g (endless_index p (size g) g.wires))
+ending g p (Some ws) = counted ws
 
 unfoldable pub rewritten : Graph → Map PlanAction → Rewriting
 rewritten g p = ending g p (rewrite_wires p (size g) g.wires)

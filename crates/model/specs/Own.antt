@@ -1,6 +1,5 @@
 -- What nodes are by themselves: a graph's Literals, and the inputs that a caller sets (document 02, Wishes 11 and 14).
-use Rattle.std.specs.Prelude.{ℕ, Bool, true, false, cond, not, ◌&&◌, List, [], ◌∷◌, eqb, get_or}
-use Rattle.std.proofs.Math.Option.{Option, none, some}
+use Rattle.std.specs.Prelude.{ℕ, Bool, true, false, cond, not, ◌&&◌, List, [], ◌∷◌, eqb, get_or, Option, None, Some}
 use Rattle.ir.specs.Classes.{microchip_input}
 use Rattle.ir.specs.Flags.{nofold}
 use Rattle.ir.specs.Ports.{rer_input}
@@ -31,9 +30,9 @@ set_true = 2
 
 -- what it is then; another number sets nothing
 abbrev pub setting_of : ℕ → Option Value
-setting_of setting = cond (eqb setting set_false) (some (Value.Bool false)) (cond (eqb setting set_true) (some (Value.Bool true)) none)
+setting_of setting = cond (eqb setting set_false) (Some (Value.Bool false)) (cond (eqb setting set_true) (Some (Value.Bool true)) None)
 
 -- what the nodes are by themselves, with a setting for each: a Literal its Value, a free input what it is set to, "known once it is tried, as a Literal is";
 -- of a nofold node it plays no part, since its trial offers nothing
 unfoldable pub own_of : Graph → List ℕ → Map Value
-own_of g own n = or_else (literals g n) (cond (is_free_input g n) (setting_of (get_or own n set_nothing)) none)
+own_of g own n = or_else (literals g n) (cond (is_free_input g n) (setting_of (get_or own n set_nothing)) None)

@@ -1,6 +1,5 @@
 -- Trials (document 01, "A trial works on what is known and planned so far, and only adds").
-use Rattle.std.specs.Prelude.{ℕ, ◌<◌, ◌≡◌, cond, List, [], ◌∷◌}
-use Rattle.std.proofs.Math.Option.{none}
+use Rattle.std.specs.Prelude.{ℕ, ◌<◌, ◌≡◌, cond, List, [], ◌∷◌, None}
 use Rattle.value.specs.declared.Value.{Value}
 use Rattle.graph.specs.Graph.{Graph}
 use Rattle.model.specs.Maps.{Map, is_some, put}
@@ -14,7 +13,7 @@ pub record State : Type 0 where
 
 -- "nothing known and nothing planned"
 unfoldable pub empty : State
-empty = record { known = λ n. none; plan = λ n. none }
+empty = record { known = λ n. None; plan = λ n. None }
 
 unfoldable pub add : State → ℕ → Offer → State
 add s n o = record { known = put s.known n o.value; plan = put s.plan n o.plan }

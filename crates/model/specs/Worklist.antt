@@ -1,6 +1,5 @@
 -- The worklist (document 01, "The waiting line starts with all nodes in number order. ..").
-use Rattle.std.specs.Prelude.{ℕ, suc, ◌+◌, ◌<◌, ◌≤◌, ◌≡◌, Bool, cond, not, ◌&&◌, List, [], ◌∷◌, ◌++◌, eqb, length}
-use Rattle.std.proofs.Math.Option.{none}
+use Rattle.std.specs.Prelude.{ℕ, suc, ◌+◌, ◌<◌, ◌≤◌, ◌≡◌, Bool, cond, not, ◌&&◌, List, [], ◌∷◌, ◌++◌, eqb, length, None}
 use Rattle.value.specs.declared.Value.{Value}
 use Rattle.graph.specs.Graph.{Graph, member}
 use Rattle.model.specs.Maps.{Map, is_some, keep, any, All, Distinct, up_to, iterate}
@@ -60,4 +59,4 @@ pub record Waiting (g : Graph) (w : Work) : Type 0 where
   pub once : Distinct w.queue
   pub nodes : All (λ c. c < size g) w.queue
   pub places : length w.queue ≤ queue_places
-  pub unknown : All (λ c. w.state.known c ≡ none) w.queue
+  pub unknown : All (λ c. w.state.known c ≡ None) w.queue

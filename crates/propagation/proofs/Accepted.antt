@@ -1,4 +1,5 @@
 -- What an accepted input and its indexes are, and what a refused one is.
+use Rattle.std.specs.Prelude.{Result, Ok, Err, IsErrAnd}
 use mathlib.Core.Path.{◌≡◌, refl, sym, ap, ap₂, ◌∙◌, subst, subst₂}
 use mathlib.Core.List.{List}
 use Prim.Native.Nat.{ℕ}
@@ -9,12 +10,13 @@ use Rattle.graph.specs.Decode.{Verdict, accepted, refused, decode, graph_of}
 use Rattle.graph.specs.Refusals.{counts, refusal, reported}
 use Rattle.graph.specs.declared.Counts.{Counts}
 use Rattle.graph.specs.declared.Row.{Row}
-use Rattle.records.specs.Access.{Accepts, Bounded}
+use Rattle.graph.specs.Index.{Indexed}
+use Rattle.records.specs.Access.{wires_of, Accepts, Bounded}
 use Rattle.records.proofs.Laid.{counted, bounded}
 use Rattle.table.specs.Table.{RowTable, Cells}
 use Rattle.model.specs.Inputs.{size}
+use Rattle.wire_index.specs.Chains.{Feeds}
 use Rattle.resolve.specs.Reads.{Reads}
-use Rattle.propagation.specs.Propagation.{Indexes}
 
 -- an accepted input has its graph
 pub accepted_graph : (s : List ℕ) (c : Counts) → Accepts s c → decode s ≡ accepted (graph_of s)
@@ -42,20 +44,25 @@ refused_is input {n} {p} e = go (decode input) refl
         let y : p ≡ r = cc in
         q ∙ ap₂ refused (sym x) (sym y)
 
+-- what the exit of a `?` returns
+pub err_is : {T E : Type 0} (r : Result T E) (e : E) → IsErrAnd r (λ d. d ≡ e) → r ≡ Err e
+err_is (Ok x) e h = absurd h
+err_is (Err d) e h = ap Err h
+
 pub bounded_at : (input : List ℕ) (c : Counts) {vs : List Wire} → Accepts input c → vs ≡ (graph_of input).wires → Bounded vs c.nodes
 unfolding size
 bounded_at input c a f = subst₂ (λ (m : ℕ) (us : List Wire). Bounded us m) (sym (nodes_are input c a)) (sym f) (bounded input)
 
 -- what a trial reads of it
-pub reads_at : {input : List ℕ} {c : Counts} {table wires feedsFirst feedsNext first next : List ℕ} {rs : List Row} {rows : RowTable} → Indexes input c table wires feedsFirst feedsNext first next → rs ≡ (graph_of input).rows → Cells rs rows → Reads (graph_of input) c input table wires rows feedsFirst feedsNext
+pub reads_at : {input table wires first next : List ℕ} {c : Counts} {rs : List Row} {rows : RowTable} → Accepts input c → Indexed (graph_of input).properties input table → wires_of wires ≡ (graph_of input).wires → Feeds (wires_of wires) first next → rs ≡ (graph_of input).rows → Cells rs rows → Reads (graph_of input) c input table wires rows first next
 unfolding size
-reads_at {input} {c} {rows = rows} X e h =
+reads_at {input} {c = c} {rows = rows} a p w f e h =
     record {
       graph = refl;
-      counts = counted input c X.accepts;
-      properties = X.properties;
-      wires_part = X.wires_part;
+      counts = counted input c a;
+      properties = p;
+      wires_part = w;
       row_cells = subst (λ (qs : List Row). Cells qs rows) e h;
       bounded = bounded input;
-      feeds = X.feeds;
+      feeds = rw w at f;
     }

@@ -19,6 +19,7 @@ use Rattle.graph.specs.Questions.{is_kind, is_wire_port, is_listed, has_nodes}
 use Rattle.graph.specs.Decode.{Verdict, accepted, refused, decode, graph_of}
 use Rattle.graph.specs.Refusals.{counts, refusal, reported}
 use Rattle.records.specs.Access.{no_node, no_wire, no_row, wires_of, rows_of, Named, Bounded, Accepts, wires_offset, rows_offset}
+use Rattle.records.specs.declared.access.Records.{Records}
 use Rattle.graph.specs.declared.Counts.{Counts}
 use Rattle.graph.proofs.Roles.{and_left, and_right, node_kind, wire_kind, row_kind, annihilator_kind}
 use Rattle.encoding.proofs.Sizes.{property_kind}
@@ -322,3 +323,7 @@ module _ (s : List ℕ) where
         let f = final s in
         let e : length s - 21 * texts (graph_of s).properties - 2 * length (graph_of s).annihilators - 5 * length (graph_of s).rows ≡ f.laid.from = omega (arith, f.laid.total, (f.ends c a).0) in
         rw (counted, e) (rows_run s f.laid.from (graph_of s).rows (omega (arith, f.laid.total, (f.ends c a).0)) f.laid.rows)
+
+-- the records of an accepted input are inside it
+pub room : (r : Records) → wires_offset r.counts + 7 * r.counts.wires + 5 * r.counts.rows + 2 * r.counts.annihilators + 21 * r.counts.texts ≤ length r.input.now
+room r = inside r.input.now r.counts r.accepts

@@ -19,7 +19,7 @@ use Rattle.graph.specs.Refusals.{counts, refusal, reported, number_of}
 use Rattle.graph.specs.Index.{entry_value, Indexed, Held, Sound, Next, slot}
 use Rattle.graph.specs.declared.Counts.{Counts}
 use Rattle.graph.specs.declared.Refusal.{Refusal}
-use Rattle.graph.specs.declared.Refusal.TheVariants.{TooLong, UnknownKind, CutOff, Unlisted, OrdersText, OutOfOrder, MissingNode, Repeated, TooMany}
+use Rattle.graph.specs.declared.Refusal.TheVariants.{TooLong, UnknownKind, CutOff, Unlisted, OrdersText, OutOfOrder, MissingNode, Repeated, TooMany, Endless, NoSpace}
 use Rattle.records.specs.Scanned.{Scanned}
 use Rattle.graph.proofs.Asked.{Passed, passed}
 use Rattle.graph.proofs.Added.{few_texts}
@@ -199,3 +199,5 @@ positive (OutOfOrder at) = omega arith
 positive (MissingNode at) = omega arith
 positive (Repeated at) = omega arith
 positive (TooMany at) = omega arith
+positive (Endless at) = omega arith
+positive NoSpace = omega arith

@@ -2,13 +2,13 @@
 ghost use Rattle.std.specs.Prelude.{◌≡◌, ◌+◌, ◌*◌, ◌≤◌, ◌<◌, length, get_or};
 ghost use Rattle.graph.specs.Graph.{lookup};
 ghost use Rattle.graph.specs.Decode.{graph_of};
-ghost use Rattle.graph.specs.Index.{Indexed};
-ghost use Rattle.records.specs.Access.{no_node, no_wire, no_row, wires_of, rows_of, Accepts, wires_offset, properties_offset, rows_offset, annihilators_offset, texts_offset, wire_records, row_records};
+ghost use Rattle.graph.specs.Index.{Indexed, slot};
+ghost use Rattle.records.specs.Access.{no_node, no_wire, no_row, wires_of, rows_of, Bounded, Accepts, wires_offset, properties_offset, rows_offset, annihilators_offset, texts_offset, wire_records, row_records};
 
-use encoding::{values, wires as wire_records};
+use encoding::{values, wires};
 use graph::{Counts, Node, Row, SLOTS};
 use ir::{Wire, port};
-use value::OptionValue;
+use value::Value;
 
 // How long the records of a node, a row, an annihilator and a text are.
 const NODE_SIZE: usize = 3;
@@ -18,18 +18,6 @@ pub const ROW_SIZE: usize = 5;
 const ANNIHILATOR_SIZE: usize = 2;
 
 const TEXT_SIZE: usize = 21;
-
-fn wide(x: u8) -> usize
-    ensures { (result ≡ x) × (result < 256) }
-{
-    x as usize
-}
-
-fn wide_offset(x: u16) -> usize
-    ensures { (result ≡ x) × (result < 65536) }
-{
-    x as usize
-}
 
 pub fn node(input: &[u8], i: usize) -> Node
     requires { i < length (graph_of input.now).nodes }
@@ -42,70 +30,103 @@ pub fn node(input: &[u8], i: usize) -> Node
     }
 }
 
-// Where the records of each role start. Texts are properties of their own kind, after the annihilators.
-pub fn wires_offset(input: &[u8], counts: Counts) -> usize
-    requires { Accepts input.now counts }
-    ensures { result ≡ wires_offset counts }
-{
-    NODE_SIZE * counts.nodes
+// An accepted input, and the counts of its records.
+#[derive(Clone, Copy)]
+pub struct Records<'a> {
+    pub input: &'a [u8],
+    pub counts: Counts,
+    pub ghost accepts: { Accepts input.now counts },
 }
 
-pub fn properties_offset(input: &[u8], counts: Counts) -> usize
-    requires { Accepts input.now counts }
-    ensures { result ≡ properties_offset counts }
-{
-    wires_offset(input, counts) + wire_records::SIZE * counts.wires
+impl<'a> Records<'a> {
+    // Where the records of each role start. Texts are properties of their own kind, after the annihilators.
+    pub fn wires_offset(&self) -> usize
+        ensures { result ≡ wires_offset self.now.counts }
+    {
+        NODE_SIZE * self.counts.nodes
+    }
+
+    pub fn properties_offset(&self) -> usize
+        ensures { result ≡ properties_offset self.now.counts }
+    {
+        self.wires_offset() + wires::SIZE * self.counts.wires
+    }
+
+    pub fn texts_offset(&self) -> usize
+        ensures { result ≡ texts_offset (length self.now.input.now) self.now.counts }
+    {
+        self.input.len() - TEXT_SIZE * self.counts.texts
+    }
+
+    pub fn annihilators_offset(&self) -> usize
+        ensures { result ≡ annihilators_offset (length self.now.input.now) self.now.counts }
+    {
+        self.texts_offset() - ANNIHILATOR_SIZE * self.counts.annihilators
+    }
+
+    pub fn rows_offset(&self) -> usize
+        ensures { result ≡ rows_offset (length self.now.input.now) self.now.counts }
+    {
+        self.annihilators_offset() - ROW_SIZE * self.counts.rows
+    }
+
+    // The wire records, as that part of the input.
+    pub fn wire_records(&self) -> &'a [u8]
+        ensures part { result.now ≡ wire_records self.now.input.now self.now.counts }
+        ensures wires { wires_of result.now ≡ (graph_of self.now.input.now).wires }
+    {
+        &self.input[self.wires_offset()..self.properties_offset()]
+    }
+
+    pub fn wires(&self) -> Wires<'a>
+        ensures records { result.records.now ≡ wire_records self.now.input.now self.now.counts }
+        ensures nodes { result.nodes ≡ self.now.counts.nodes }
+        ensures wires { wires_of result.records.now ≡ (graph_of self.now.input.now).wires }
+    {
+        Wires {
+            records: self.wire_records(),
+            nodes: self.counts.nodes,
+        }
+    }
+
+    // The row records, as that part of the input.
+    pub fn rows(&self) -> &'a [u8]
+        ensures part { result.now ≡ row_records self.now.input.now self.now.counts }
+        ensures rows { rows_of result.now ≡ (graph_of self.now.input.now).rows }
+    {
+        &self.input[self.rows_offset()..self.annihilators_offset()]
+    }
 }
 
-pub fn texts_offset(input: &[u8], counts: Counts) -> usize
-    requires { Accepts input.now counts }
-    ensures { result ≡ texts_offset (length input.now) counts }
-{
-    input.len() - TEXT_SIZE * counts.texts
+// The wire records of a graph of so many nodes.
+#[derive(Clone, Copy)]
+pub struct Wires<'a> {
+    pub records: &'a [u8],
+    pub nodes: usize,
+    pub ghost bounded: { Bounded (wires_of records.now) nodes },
 }
 
-pub fn annihilators_offset(input: &[u8], counts: Counts) -> usize
-    requires { Accepts input.now counts }
-    ensures { result ≡ annihilators_offset (length input.now) counts }
-{
-    texts_offset(input, counts) - ANNIHILATOR_SIZE * counts.annihilators
-}
+impl Wires<'_> {
+    pub fn len(&self) -> usize
+        ensures { result ≡ length (wires_of self.now.records.now) }
+    {
+        self.records.len() / wires::SIZE
+    }
 
-pub fn rows_offset(input: &[u8], counts: Counts) -> usize
-    requires { Accepts input.now counts }
-    ensures { result ≡ rows_offset (length input.now) counts }
-{
-    annihilators_offset(input, counts) - ROW_SIZE * counts.rows
-}
-
-// The wire records, as that part of the input.
-pub fn wires(input: &[u8], counts: Counts) -> &[u8]
-    requires { Accepts input.now counts }
-    ensures part { result.now ≡ wire_records input.now counts }
-    ensures wires { wires_of result.now ≡ (graph_of input.now).wires }
-{
-    let from = wires_offset(input, counts);
-    let to = properties_offset(input, counts);
-    &input[from..to]
+    pub fn get(&self, i: usize) -> Wire
+        requires { i < length (wires_of self.now.records.now) }
+        ensures { result ≡ get_or (wires_of self.now.records.now) i no_wire }
+    {
+        wire(self.records, i)
+    }
 }
 
 // The wire of the j-th of a run of wire records.
-pub fn wire(wires: &[u8], j: usize) -> Wire
-    requires { j < length (wires_of wires.now) }
-    ensures { result ≡ get_or (wires_of wires.now) j no_wire }
+pub fn wire(records: &[u8], j: usize) -> Wire
+    requires { j < length (wires_of records.now) }
+    ensures { result ≡ get_or (wires_of records.now) j no_wire }
 {
-    wire_records::read_wire(wires, wire_records::SIZE * j)
-}
-
-// The row records, as that part of the input.
-pub fn rows(input: &[u8], counts: Counts) -> &[u8]
-    requires { Accepts input.now counts }
-    ensures part { result.now ≡ row_records input.now counts }
-    ensures rows { rows_of result.now ≡ (graph_of input.now).rows }
-{
-    let from = rows_offset(input, counts);
-    let to = annihilators_offset(input, counts);
-    &input[from..to]
+    wires::read_wire(records, wires::SIZE * j)
 }
 
 // The row of the k-th of a run of row records.
@@ -122,15 +143,31 @@ pub fn row(rows: &[u8], k: usize) -> Row
     }
 }
 
-// The property of a node and a port, by the table that `decode` filled.
-pub fn property(input: &[u8], table: &[u16; SLOTS], node: usize, port: u8) -> OptionValue
-    requires { (node < 1024) × (port ≤ 10) × Indexed (graph_of input.now).properties input.now table.now }
-    ensures { result ≡ lookup node port (graph_of input.now).properties }
-{
-    let i = node * port::COUNT + wide(port);
-    let at = wide_offset(table[i]);
-    if at == 0 {
-        return OptionValue::None;
+// Where the properties of an input stand, by the table that `decode` fills.
+#[derive(Clone, Copy)]
+pub struct Properties<'a> {
+    pub input: &'a [u8],
+    pub table: &'a [u16; SLOTS],
+    pub ghost indexed: { Indexed (graph_of input.now).properties input.now table.now },
+}
+
+impl Properties<'_> {
+    // The offset of the property of a node and a port, 0 where there is none.
+    pub fn offset(&self, node: usize, port: u8) -> usize
+        requires { (node < 1024) × (port ≤ 10) }
+        ensures { result ≡ get_or self.now.table.now (slot node port) 0 }
+    {
+        usize::from(self.table[node * port::COUNT + usize::from(port)])
     }
-    OptionValue::Some(values::read_value(input[at], input, at + 4))
+
+    pub fn get(&self, node: usize, port: u8) -> Option<Value>
+        requires { (node < 1024) × (port ≤ 10) }
+        ensures { result ≡ lookup node port (graph_of self.now.input.now).properties }
+    {
+        let at = self.offset(node, port);
+        if at == 0 {
+            return None;
+        }
+        Some(values::read_value(self.input[at], self.input, at + 4))
+    }
 }

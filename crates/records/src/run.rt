@@ -6,7 +6,7 @@ ghost use Rattle.graph.specs.Index.{Next};
 ghost use Rattle.graph.specs.Layout.{size_of};
 ghost use Rattle.records.specs.Scanned.{Scanned, InRuns};
 
-use graph::{Counts, SLOTS, question, scan};
+use graph::{Counts, Record, SLOTS, question, scan};
 use ir::{Role, kind};
 
 // The offset past a run, and the counts with it.
@@ -33,9 +33,9 @@ fn read_run(
     let mut more = counts;
     let mut at = from;
     while question::is_next(kind, role, size, s, at, more, table) {
-        let nodes = more.nodes;
-        scan::index(role, s, at, nodes, table);
-        more = scan::count(role, s, at, more);
+        let record = Record { role, input: s, at };
+        scan::index(&record, table);
+        more = scan::count(&record, more);
         at += size;
     }
     Run { at, counts: more }
@@ -60,11 +60,10 @@ pub fn read_same(
         return Run { at: from, counts };
     }
     match role {
-        Role::Unlisted => Run { at: from, counts },
         Role::Node => read_run(kind, Role::Node, size, s, from, counts, table),
         Role::Wire => read_run(kind, Role::Wire, size, s, from, counts, table),
         Role::Property => read_run(kind, Role::Property, size, s, from, counts, table),
         Role::Row => read_run(kind, Role::Row, size, s, from, counts, table),
-        Role::Annihilator => Run { at: from, counts },
+        Role::Unlisted | Role::Annihilator => Run { at: from, counts },
     }
 }

@@ -1,6 +1,5 @@
 -- What the functions behind a trial give, in the model's terms.
-use Rattle.std.specs.Prelude.{ℕ, ◌≡◌, Bool, cond, List, [], ◌∷◌, eqb}
-use Rattle.std.proofs.Math.Option.{none, some}
+use Rattle.std.specs.Prelude.{ℕ, ◌≡◌, Bool, cond, List, [], ◌∷◌, eqb, None, Some}
 use Rattle.ir.specs.Classes.{microchip_input}
 use Rattle.ir.specs.Ports.{input_a, input_b, third_input}
 use Rattle.graph.specs.Graph.{Graph}
@@ -17,8 +16,8 @@ gate_inputs port second third = port input_a ∷ input_if second (port input_b) 
 
 -- a Microchip node of a class, by what its RerInput has and what it is set to, which plays a part where it is a MicrochipInput with no wire there
 abbrev pub microchip_offer : ℕ → ℕ → Resolved → Offer
-microchip_offer class setting Resolved.Unwired = value_offer (cond (eqb class microchip_input) (setting_of setting) none)
-microchip_offer class setting (Resolved.Known v) = value_offer (some v)
+microchip_offer class setting Resolved.Unwired = value_offer (cond (eqb class microchip_input) (setting_of setting) None)
+microchip_offer class setting (Resolved.Known v) = value_offer (Some v)
 microchip_offer class setting Resolved.Unresolved = no_offer
 
 -- the trial gives node n this offer

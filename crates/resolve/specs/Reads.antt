@@ -8,6 +8,8 @@ use Rattle.records.specs.Access.{wires_of, Bounded}
 use Rattle.table.specs.Table.{RowTable, Cells}
 use Rattle.model.specs.Inputs.{size}
 use Rattle.wire_index.specs.Chains.{Feeds}
+use Rattle.inputs.specs.declared.Reads.{Reads as Reading}
+use Rattle.inputs.specs.Reading.{graph_in}
 
 -- what a trial reads: the graph of the input, and the indexes of its properties, rows and wires
 pub record Reads (g : Graph) (c : Counts) (input table wires : List ℕ) (rows : RowTable) (first next : List ℕ) : Type 0 where
@@ -18,3 +20,7 @@ pub record Reads (g : Graph) (c : Counts) (input table wires : List ℕ) (rows :
   pub row_cells : Cells g.rows rows
   pub bounded : Bounded g.wires (size g)
   pub feeds : Feeds g.wires first next
+
+-- the same of what the code reads
+abbrev pub IsComplete : Reading → Type 0
+IsComplete r = Reads (graph_in r) r.counts r.properties.input.now r.properties.table.now r.wires.records.now r.rows.now r.feeds.now.first r.feeds.now.next

@@ -8,25 +8,22 @@ ghost use Rattle.ir.specs.Classes.{class_count};
 ghost use Rattle.ir.specs.Limits.{max_nodes};
 ghost use Rattle.ir.specs.Ports.{input_a, input_b, b_select_b, b_cond, exec_out_a, exec_out_b, value_port};
 ghost use Rattle.graph.specs.Graph.{Graph};
-ghost use Rattle.graph.specs.Decode.{graph_of};
-ghost use Rattle.table.specs.Table.{Cells};
-ghost use Rattle.model.specs.Inputs.{size, optional, value_in};
+ghost use Rattle.model.specs.Inputs.{size, value_in};
 ghost use Rattle.model.specs.Offer.{offer, value_offer, select_offer, branch_offer, resolve_condition};
 ghost use Rattle.model.specs.Own.{set_nothing, setting_of, own_of};
 ghost use Rattle.state.specs.Held.{known_of};
 ghost use Rattle.state.specs.Trials.{offer_of, Within};
-ghost use Rattle.resolve.specs.Reads.{Reads};
-ghost use Rattle.inputs.specs.Inputs.{Inputs, wired_port, port_of};
+ghost use Rattle.inputs.specs.Reading.{graph_in, wired_in, port_in};
+ghost use Rattle.resolve.specs.Reads.{IsComplete};
 ghost use Rattle.resolve.specs.Gives.{microchip_offer, Gives};
 
-use graph::{Counts, SLOTS};
-use inputs::{Feeds, OptionBool};
+use gates::Gate;
+use inputs::{Feeds, Reads};
 use ir::{Folding, class, flag, limit, port};
 use model::Resolved;
 use records::access;
-use state::{Trial, WORDS};
-use table::Rows;
-use value::{OptionValue, Value};
+use state::{Known, Trial};
+use value::Value;
 
 // What a caller sets an input to, which is then what it is by itself; any other number sets nothing too.
 pub const SET_NOTHING: u8 = 0;
@@ -35,11 +32,11 @@ pub const SET_FALSE: u8 = 1;
 
 pub const SET_TRUE: u8 = 2;
 
-// A value without a plan.
-fn known(value: OptionValue) -> Trial
-    ensures { (g : Graph) (n : ℕ) → Gives g n (value_offer (optional value)) result }
+// A Literal, known as its Value where it has one.
+fn try_resolve_literal(value: Option<Value>) -> Trial
+    ensures { (g : Graph) (n : ℕ) → Gives g n (value_offer value) result }
 {
-    let OptionValue::Some(v) = value else {
+    let Some(v) = value else {
         return Trial::Nothing;
     };
     Trial::Known(v)
@@ -59,13 +56,11 @@ fn passed(input: Resolved) -> Trial
 fn set_to(setting: u8) -> Trial
     ensures { (g : Graph) (n : ℕ) → Gives g n (value_offer (setting_of setting)) result }
 {
-    if setting == SET_FALSE {
-        return Trial::Known(Value::Bool(false));
+    match setting {
+        SET_FALSE => Trial::Known(Value::Bool(false)),
+        SET_TRUE => Trial::Known(Value::Bool(true)),
+        _ => Trial::Nothing,
     }
-    if setting == SET_TRUE {
-        return Trial::Known(Value::Bool(true));
-    }
-    Trial::Nothing
 }
 
 // A Microchip node, by what its wires pass on. A MicrochipInput with no wire is what it is set to.
@@ -99,74 +94,28 @@ fn taken_port(truthy: bool) -> u8
 }
 
 // A Select, once its condition is resolved: shorted to the source of the one wire at the chosen port, and known once that is.
-fn try_resolve_select(
-    input: &[u8],
-    table: &[u16; SLOTS],
-    wires: &[u8],
-    rows: &Rows,
-    first: &[u16; SLOTS],
-    next: &[u16; limit::WIRES],
-    kinds: &[u8; limit::NODES],
-    words: &[u64; WORDS],
-    n: usize,
-    class: u8,
-) -> Trial
-    requires { Inputs (graph_of input.now) input.now table.now wires.now first.now next.now × Cells (graph_of input.now).rows rows.now × (class < class_count) × (n < size (graph_of input.now)) }
-    ensures { Gives (graph_of input.now) n (select_offer (graph_of input.now) n (wired_port input.now kinds.now words.now n) (resolve_condition (graph_of input.now) class (port_of input.now kinds.now words.now n b_select_b))) result }
+fn try_resolve_select(reads: &Reads, known: &Known, n: usize, class: u8) -> Trial
+    requires { IsComplete reads.now × (class < class_count) × (n < size (graph_in reads.now)) }
+    ensures { Gives (graph_in reads.now) n (select_offer (graph_in reads.now) n (wired_in reads.now known.now n) (resolve_condition (graph_in reads.now) class (port_in reads.now known.now n b_select_b))) result }
 {
-    let OptionBool::Some(truthy) = inputs::resolve_condition(
-        input,
-        table,
-        wires,
-        rows,
-        first,
-        next,
-        kinds,
-        words,
-        n,
-        port::B_SELECT_B,
-        class,
-    ) else {
+    let Some(truthy) = inputs::resolve_condition(reads, known, n, port::B_SELECT_B, class) else {
         return Trial::Nothing;
     };
-    let Feeds::One(chosen) = inputs::feeds_of(first, next, n, chosen_port(truthy)) else {
+    let Feeds::One(chosen) = inputs::feeds_of(reads.feeds, n, chosen_port(truthy)) else {
         return Trial::Nothing;
     };
-    let OptionValue::Some(value) = inputs::source_value(wires, kinds, words, chosen) else {
+    let Some(value) = inputs::source_value(&reads.wires, known, chosen) else {
         return Trial::ShortCircuit { chosen };
     };
     Trial::ShortCircuitKnown { chosen, value }
 }
 
 // A Branch, once its condition is resolved: cut down to the targets of the taken port.
-fn try_resolve_branch(
-    input: &[u8],
-    table: &[u16; SLOTS],
-    wires: &[u8],
-    rows: &Rows,
-    first: &[u16; SLOTS],
-    next: &[u16; limit::WIRES],
-    kinds: &[u8; limit::NODES],
-    words: &[u64; WORDS],
-    n: usize,
-    class: u8,
-) -> Trial
-    requires { Inputs (graph_of input.now) input.now table.now wires.now first.now next.now × Cells (graph_of input.now).rows rows.now × (class < class_count) × (n < size (graph_of input.now)) }
-    ensures { Gives (graph_of input.now) n (branch_offer (graph_of input.now) n (resolve_condition (graph_of input.now) class (port_of input.now kinds.now words.now n b_cond))) result }
+fn try_resolve_branch(reads: &Reads, known: &Known, n: usize, class: u8) -> Trial
+    requires { IsComplete reads.now × (class < class_count) × (n < size (graph_in reads.now)) }
+    ensures { Gives (graph_in reads.now) n (branch_offer (graph_in reads.now) n (resolve_condition (graph_in reads.now) class (port_in reads.now known.now n b_cond))) result }
 {
-    let OptionBool::Some(truthy) = inputs::resolve_condition(
-        input,
-        table,
-        wires,
-        rows,
-        first,
-        next,
-        kinds,
-        words,
-        n,
-        port::B_COND,
-        class,
-    ) else {
+    let Some(truthy) = inputs::resolve_condition(reads, known, n, port::B_COND, class) else {
         return Trial::Nothing;
     };
     let taken = taken_port(truthy);
@@ -174,23 +123,11 @@ fn try_resolve_branch(
 }
 
 // What the trial of node n gives, by what is known and what inputs are set to.
-pub fn try_resolve(
-    input: &[u8],
-    counts: Counts,
-    table: &[u16; SLOTS],
-    wires: &[u8],
-    rows: &Rows,
-    first: &[u16; SLOTS],
-    next: &[u16; limit::WIRES],
-    own: &[u8; limit::NODES],
-    kinds: &[u8; limit::NODES],
-    words: &[u64; WORDS],
-    n: usize,
-) -> Trial
-    requires { Reads (graph_of input.now) counts input.now table.now wires.now rows.now first.now next.now × (n < size (graph_of input.now)) }
-    ensures { (offer_of (graph_of input.now) n result ≡ offer (own_of (graph_of input.now) own.now) (graph_of input.now) (known_of kinds.now words.now) n) × Within (graph_of input.now) result }
+pub fn try_resolve(reads: &Reads, own: &[u8; limit::NODES], known: &Known, n: usize) -> Trial
+    requires { IsComplete reads.now × (n < size (graph_in reads.now)) }
+    ensures { (offer_of (graph_in reads.now) n result ≡ offer (own_of (graph_in reads.now) own.now) (graph_in reads.now) (known_of known.now.kinds known.now.words) n) × Within (graph_in reads.now) result }
 {
-    let node = access::node(input, n);
+    let node = access::node(reads.properties.input, n);
     if flag::is_nofold(node.flags) {
         return Trial::Nothing;
     }
@@ -199,33 +136,24 @@ pub fn try_resolve(
     let count = class::input_count(folding);
     match folding {
         Folding::Never => Trial::Nothing,
-        Folding::Literal => known(access::property(input, table, n, port::VALUE)),
+        Folding::Literal => try_resolve_literal(reads.properties.get(n, port::VALUE)),
         Folding::Microchip => try_resolve_microchip(
-            inputs::resolve_input(wires, first, next, kinds, words, n, port::RER_INPUT),
+            inputs::resolve_input(&reads.wires, reads.feeds, known, n, port::RER_INPUT),
             class,
             own,
             n,
         ),
-        Folding::Select => try_resolve_select(
-            input, table, wires, rows, first, next, kinds, words, n, class,
-        ),
-        Folding::Branch => try_resolve_branch(
-            input, table, wires, rows, first, next, kinds, words, n, class,
-        ),
+        Folding::Select => try_resolve_select(reads, known, n, class),
+        Folding::Branch => try_resolve_branch(reads, known, n, class),
         _ => gates::try_resolve_gate(
-            input,
-            counts,
-            table,
-            wires,
-            rows,
-            first,
-            next,
-            kinds,
-            words,
-            n,
-            class,
-            1 < count,
-            2 < count,
+            reads,
+            known,
+            Gate {
+                node: n,
+                class,
+                second: 1 < count,
+                third: 2 < count,
+            },
         ),
     }
 }

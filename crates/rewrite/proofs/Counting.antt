@@ -1,10 +1,10 @@
 -- The start of the search for counts, and what the counts are at its end.
+use Rattle.std.specs.Prelude.{Option, Some}
 use Prim.Native.Nat.{ℕ, zero, suc, ◌≤◌, ◌<◌}
 use native.Mathlib.Omega.{arith}
 use native.Mathlib.Decide.{dec_lt}
 use mathlib.Core.Path.{◌≡◌, refl, sym, ap, ◌∙◌}
 use mathlib.Core.Bool.{Bool, true, false, cond, false≢true}
-use mathlib.Core.Option.{Option, some}
 use mathlib.Core.List.{List, [], ◌∷◌}
 use mathlib.Core.Logic.{◌⊎◌, inl, inr, ⊎_elim}
 use lib.Dec.{eqb}
@@ -61,12 +61,12 @@ module _ (ws : List Wire) (actions details : List ℕ) (n : ℕ) (s : Shaped ws 
       }
 
   -- the count at a Branch's Exec is the Branch's
-  enter_count : (table : ℕ → Option ℕ) (e : PortRef) (m : ℕ) → get_or actions e.node_id 0 ≡ 3 → e.port ≡ exec → count_at table (shape_of ws actions details e.node_id) e ≡ some m → table e.node_id ≡ some m
+  enter_count : (table : ℕ → Option ℕ) (e : PortRef) (m : ℕ) → get_or actions e.node_id 0 ≡ 3 → e.port ≡ exec → count_at table (shape_of ws actions details e.node_id) e ≡ Some m → table e.node_id ≡ Some m
   unfolding count_at
   enter_count table e m h q r = rw (shape_branch ws actions details e.node_id h, q) at r
 
   module _ (counts : List ℕ) (level : ℕ)
-      (sound : (b : ℕ) → get_or actions b 0 ≡ 3 → get_or counts b 0 < no_count → rounds (shape_of ws actions details) level b ≡ some (get_or counts b 0))
+      (sound : (b : ℕ) → get_or actions b 0 ≡ 3 → get_or counts b 0 < no_count → rounds (shape_of ws actions details) level b ≡ Some (get_or counts b 0))
       (seen : (b : ℕ) → get_or actions b 0 ≡ 3 → get_or counts b 0 ≤ no_count)
       (blocked : (b : ℕ) → get_or actions b 0 ≡ 3 → get_or counts b 0 ≡ no_count → (c : ℕ) × Waits ws actions details b c × (get_or counts c 0 ≡ no_count)) where
     -- no round has a count where there is none
@@ -75,25 +75,25 @@ module _ (ws : List Wire) (actions details : List ℕ) (n : ℕ) (s : Shaped ws 
     above zero b h a e = none_some a e
     above (suc k) b h a e = go (dec_lt (get_or counts b 0) no_count) (above k)
       where
-        go : Dec (get_or counts b 0 < no_count) → ((b : ℕ) → get_or actions b 0 ≡ 3 → rounds (shape_of ws actions details) k b ≼ entry (get_or counts b 0)) → entry (get_or counts b 0) ≡ some a
-        go (yes l) ih = entry_some (get_or counts b 0) l ∙ ap some (rounds_agree (shape_of ws actions details) level (suc k) b (get_or counts b 0) a (sound b h l) e)
+        go : Dec (get_or counts b 0 < no_count) → ((b : ℕ) → get_or actions b 0 ≡ 3 → rounds (shape_of ws actions details) k b ≼ entry (get_or counts b 0)) → entry (get_or counts b 0) ≡ Some a
+        go (yes l) ih = entry_some (get_or counts b 0) l ∙ ap Some (rounds_agree (shape_of ws actions details) level (suc k) b (get_or counts b 0) a (sound b h l) e)
         go (no l) ih =
             let (c, w, z) = blocked b h (omega (arith, seen b h)) in
             let q : get_or actions w.target.node_id 0 ≡ 3 = rw w.there w.branch in
             let (m, r) = total_each (λ d. count_at (rounds (shape_of ws actions details) k) (shape_of ws actions details d.node_id) d) (targets_in ws b (get_or details b 0)) a (unfold round taken_targets in rw (shape_branch ws actions details b h) at e) w.target w.taken in
-            let x : rounds (shape_of ws actions details) k w.target.node_id ≡ some m = enter_count (rounds (shape_of ws actions details) k) w.target m q w.enters r in
-            let y : entry (get_or counts w.target.node_id 0) ≡ some m = ih w.target.node_id q m x in
+            let x : rounds (shape_of ws actions details) k w.target.node_id ≡ Some m = enter_count (rounds (shape_of ws actions details) k) w.target m q w.enters r in
+            let y : entry (get_or counts w.target.node_id 0) ≡ Some m = ih w.target.node_id q m x in
             none_some m (sym (entry_none (get_or counts w.target.node_id 0) (rw (w.there, z) (omega arith))) ∙ y)
 
     count_above : (k : ℕ) (e : PortRef) → count_at (rounds (shape_of ws actions details) k) (shape_of ws actions details e.node_id) e ≼ entry (count_in actions counts e)
     unfolding count_in count_at
     count_above k e a = go (action (get_or actions e.node_id 0) (s.listed _))
       where
-        by_port : (y : Bool) → get_or actions e.node_id 0 ≡ 3 → cond y (rounds (shape_of ws actions details) k e.node_id) (some 0) ≡ some a → entry (cond y (get_or counts e.node_id 0) 0) ≡ some a
+        by_port : (y : Bool) → get_or actions e.node_id 0 ≡ 3 → cond y (rounds (shape_of ws actions details) k e.node_id) (Some 0) ≡ Some a → entry (cond y (get_or counts e.node_id 0) 0) ≡ Some a
         by_port true h q = above k e.node_id h a q
         by_port false h q = entry_some 0 (omega arith) ∙ q
 
-        go : Action (get_or actions e.node_id 0) → count_at (rounds (shape_of ws actions details) k) (shape_of ws actions details e.node_id) e ≡ some a → entry (count_in actions counts e) ≡ some a
+        go : Action (get_or actions e.node_id 0) → count_at (rounds (shape_of ws actions details) k) (shape_of ws actions details e.node_id) e ≡ Some a → entry (count_in actions counts e) ≡ Some a
         go (kept h) q = rw h (entry_some 1 (omega arith) ∙ rw (shape_kept ws actions details _ h) at q)
         go (literal h) q = rw h (entry_some 0 (omega arith) ∙ rw (shape_literal ws actions details _ h) at q)
         go (select h) q = rw h (entry_some 0 (omega arith) ∙ rw (shape_select ws actions details _ h) at q)

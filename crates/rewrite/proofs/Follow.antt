@@ -1,9 +1,9 @@
 -- Following a source with more and with less fuel.
+use Rattle.std.specs.Prelude.{Option, None, Some}
 use Prim.Native.Nat.{ℕ, zero, suc, ◌≤◌, ◌<◌}
 use native.Mathlib.Omega.{arith}
 use native.Mathlib.Decide.{le_ind, dec_lt}
 use mathlib.Core.Path.{◌≡◌, refl, sym, ◌∙◌}
-use mathlib.Core.Option.{Option, none, some}
 use mathlib.Core.Logic.{◌⊎◌, inl, inr}
 use Rattle.ir.specs.declared.PortRef.{PortRef}
 use Rattle.model.specs.Maps.{Map}
@@ -30,10 +30,10 @@ module _ (p : Map PlanAction) where
   -- more fuel finds the same
   leave_more : (f g : PortRef → Source) (o : Option PlanAction) (e : PortRef) → ((s : PortRef) → Found (f s) → g s ≡ f s) → Found (leave f o e) → leave g o e ≡ leave f o e
   unfolding leave
-  leave_more f g none e h x = refl
-  leave_more f g (some (BecomeLiteral v)) e h x = refl
-  leave_more f g (some (ShortCircuit s)) e h x = h s x
-  leave_more f g (some (Truncate ts)) e h x = refl
+  leave_more f g None e h x = refl
+  leave_more f g (Some (BecomeLiteral v)) e h x = refl
+  leave_more f g (Some (ShortCircuit s)) e h x = h s x
+  leave_more f g (Some (Truncate ts)) e h x = refl
 
   follow_suc : (k : ℕ) (e : PortRef) → Found (follow p k e) → follow p (suc k) e ≡ follow p k e
   unfolding follow
@@ -44,7 +44,7 @@ module _ (p : Map PlanAction) where
   follow_more i k h e x = le_ind (λ m. follow p m e ≡ follow p i e) refl (λ m l ih. follow_suc m e (rw ih x) ∙ ih) k h
 
   -- what was found with some fuel is found with as much as there are nodes
-  module _ (n : ℕ) (low : (x : ℕ) (q : PlanAction) → p x ≡ some q → x < n) where
+  module _ (n : ℕ) (low : (x : ℕ) (q : PlanAction) → p x ≡ Some q → x < n) where
     pub follow_found : (k : ℕ) (e : PortRef) → Found (follow p k e) → follow p n e ≡ follow p k e
     follow_found k e x = go (dec_lt n k) (found? (follow p n e))
       where

@@ -1,13 +1,14 @@
 -- Where neither a Select nor a Branch is planned, each wire into a node that stays becomes one wire, and each other none.
+use Rattle.std.specs.Prelude.{Option, Some}
 use Prim.Native.Nat.{ℕ, zero, suc, ◌+◌, ◌≤◌, ◌<◌}
 use native.Mathlib.Omega.{arith}
 use native.Mathlib.Decide.{ℕ_discrete}
 use native.Mathlib.Numerals.{add-one}
 use mathlib.Core.Path.{◌≡◌, refl, ap, ap₂, ◌∙◌}
-use mathlib.Core.Bool.{cond}
-use mathlib.Core.Option.{Option, some}
+use mathlib.Core.Bool.{Bool, true, false, cond}
 use mathlib.Core.List.{List, [], ◌∷◌}
 use lib.Dec.{eqb}
+use mir.Val.{bool_byte}
 use lib.ListN.{length, get_or, drop, length-append}
 use lib.Seq.{drop-cons, drop-length}
 use Rattle.ir.specs.Limits.{max_wires}
@@ -48,25 +49,25 @@ module _ (vs : List Wire) (actions details : List ℕ) (n : ℕ) (s : Shaped vs 
       go zero (Plain.folds a) = rw (shape_literal vs actions details _ a, a)
       go (suc k) (Plain.folds a) = rw (shape_literal vs actions details _ a, a)
 
-  reach_kept : (k : ℕ) (e : PortRef) → get_or actions e.node_id 0 ≡ 0 → reach p k e ≡ some (e ∷ [])
+  reach_kept : (k : ℕ) (e : PortRef) → get_or actions e.node_id 0 ≡ 0 → reach p k e ≡ Some (e ∷ [])
   unfolding reach arrive
   reach_kept zero e a = rw (shape_kept vs actions details _ a)
   reach_kept (suc k) e a = rw (shape_kept vs actions details _ a)
 
-  reach_literal : (k : ℕ) (e : PortRef) → get_or actions e.node_id 0 ≡ 1 → reach p k e ≡ some []
+  reach_literal : (k : ℕ) (e : PortRef) → get_or actions e.node_id 0 ≡ 1 → reach p k e ≡ Some []
   unfolding reach arrive
   reach_literal zero e a = rw (shape_literal vs actions details _ a)
   reach_literal (suc k) e a = rw (shape_literal vs actions details _ a)
 
-  one : (w : Wire) → rewrite_wire p n w ≡ some (kept_wire actions w)
+  one : (w : Wire) → rewrite_wire p n w ≡ Some (kept_wire actions w)
   unfolding rewrite_wire joined kept_wire
   one w = go (plain w.target.node_id)
     where
-      go : Plain w.target.node_id → rewrite_wire p n w ≡ some (kept_wire actions w)
+      go : Plain w.target.node_id → rewrite_wire p n w ≡ Some (kept_wire actions w)
       go (Plain.stays a) = ap₂ joined (reach_kept n w.target a) (follow_plain n w.source) ∙ rw a refl
       go (Plain.folds a) = ap (λ (o : Option (List PortRef)). joined o (follow p n w.source)) (reach_literal n w.target a) ∙ rw a refl
 
-  pub wires_kept : (ws : List Wire) → rewrite_wires p n ws ≡ some (kept_wires actions ws)
+  pub wires_kept : (ws : List Wire) → rewrite_wires p n ws ≡ Some (kept_wires actions ws)
   unfolding rewrite_wires collect both kept_wires
   wires_kept [] = refl
   wires_kept (w ∷ ws) = ap₂ both (one w) (wires_kept ws)
@@ -89,6 +90,14 @@ pub kept_few : (actions : List ℕ) (ws : List Wire) → length (kept_wires acti
 kept_few actions [] = unfold kept_wires in omega arith
 kept_few actions (w ∷ ws) = by_bool (eqb (get_or actions w.target.node_id 0) 0) (λ e. rw (count_cons actions w ws, e) (omega (arith, kept_few actions ws))) (λ e. rw (count_cons actions w ws, e) (omega (arith, kept_few actions ws)))
 
+byte_cond : (b : Bool) → bool_byte b ≡ cond b 1 0
+byte_cond true = refl
+byte_cond false = refl
+
+byte_low : (b : Bool) → cond b 1 0 ≤ 1
+byte_low true = omega arith
+byte_low false = omega arith
+
 -- the wires before i are counted
 pub record Counting (actions : List ℕ) (ws : List Wire) (i count : ℕ) : Type 0 where
   pub low : count ≤ i
@@ -98,12 +107,14 @@ module _ (actions : List ℕ) (ws : List Wire) where
   pub counting_start : Counting actions ws 0 0
   counting_start = record { low = omega arith; rest = omega arith }
 
-  pub counting_next : (i count more : ℕ) → i < length ws → Counting actions ws i count → more ≡ cond (eqb (get_or actions (get_or ws i no_wire).target.node_id 0) 0) 1 0 → Counting actions ws (i + 1) (count + more)
-  counting_next i count more h c e =
-      record {
-        low = by_bool (eqb (get_or actions (get_or ws i no_wire).target.node_id 0) 0) (λ q. let z : more ≡ 1 = rw q at e in omega (arith, c.low)) (λ q. let z : more ≡ 0 = rw q at e in omega (arith, c.low));
-        rest = rw add-one (omega (arith, c.rest, ap (λ (us : List Wire). length (kept_wires actions us)) (drop-cons ws i no_wire h), count_cons actions (get_or ws i no_wire) (drop (suc i) ws), e));
-      }
+  pub counting_next : (i count more : ℕ) → i < length ws → Counting actions ws i count → more ≡ bool_byte (eqb (get_or actions (get_or ws i no_wire).target.node_id 0) 0) → Counting actions ws (i + 1) (count + more)
+  counting_next i count more h c e = go (eqb (get_or actions (get_or ws i no_wire).target.node_id 0) 0) refl
+    where
+      go : (b : Bool) → eqb (get_or actions (get_or ws i no_wire).target.node_id 0) 0 ≡ b → Counting actions ws (i + 1) (count + more)
+      go b q =
+          let m : more ≡ cond b 1 0 = e ∙ ap bool_byte q ∙ byte_cond b in
+          let n : length (kept_wires actions (drop i ws)) ≡ cond b 1 0 + length (kept_wires actions (drop (suc i) ws)) = ap (λ (us : List Wire). length (kept_wires actions us)) (drop-cons ws i no_wire h) ∙ rw (count_cons actions (get_or ws i no_wire) (drop (suc i) ws), q) refl in
+          record { low = omega (arith, c.low, byte_low b); rest = rw add-one (omega (arith, c.rest)) }
 
   pub counting_end : (i count : ℕ) → i ≡ length ws → Counting actions ws i count → count ≡ length (kept_wires actions ws)
   unfolding kept_wires

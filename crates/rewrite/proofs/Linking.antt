@@ -3,26 +3,27 @@ use Prim.Native.Nat.{ℕ, suc, ◌+◌, ◌≤◌, ◌<◌}
 use native.Mathlib.Omega.{arith}
 use native.Mathlib.Decide.{ℕ_discrete, dec_lt}
 use native.Mathlib.Numerals.{add-one}
-use mathlib.Core.Path.{◌≡◌, refl, sym, ap, ◌∙◌, fun_ext}
+use mathlib.Core.Path.{◌≡◌, refl, sym, ap, subst, ◌∙◌, fun_ext}
 use mathlib.Core.Bool.{Bool, true, false, cond, ◌&&◌, and-false}
 use mathlib.Core.List.{List, [], ◌∷◌}
+use Rattle.std.proofs.Math.Bool.{and_assoc}
 use mathlib.Core.Logic.{◌⊎◌, inl, inr, ⊎_elim}
 use lib.Dec.{eqb, ltb}
 use lib.ListN.{length, get_or, set, drop, replicate, length-set, length-replicate, get_or-replicate, get_or-eq_default}
 use lib.Seq.{get_or-set_same, get_or-set_other, drop-cons, drop-length}
-use borrow.Author.Tests.{eq-eqb, ne_eqb, lt-ltb}
+use borrow.Author.Tests.{eq-eqb, ne_eqb}
 use Rattle.ir.specs.Limits.{max_nodes, max_wires}
 use Rattle.ir.specs.declared.Wire.{Wire}
 use Rattle.records.specs.Access.{no_wire, Bounded}
 use Rattle.model.specs.Maps.{keep}
 use Rattle.model.specs.Inputs.{is_port}
 use Rattle.wire_index.specs.Chains.{Chain, end, link}
-use Rattle.wire_index.proofs.Chains.{chain_code}
+use Rattle.wire_index.proofs.Walks.{chain_code}
 use Rattle.state.specs.Planned.{Shaped}
 use Rattle.rewrite.specs.Counts.{count_in}
 use Rattle.rewrite.specs.Taken.{taken_wires, Later, Taken}
 use Rattle.rewrite.specs.Live.{live_wires, Live}
-use Rattle.rewrite.specs.Linked.{takes, lives, Linked, Within}
+use Rattle.rewrite.specs.Linked.{leaves, takes_from, Linked, Within}
 use Rattle.rewrite.proofs.Shapes.{planned_low}
 
 pub within : (ws : List Wire) (n : ℕ) → Bounded ws n → Within ws
@@ -158,84 +159,56 @@ keep_keep f h (w ∷ ws) = go (f w) (keep_keep f h ws)
     go true e = rw e
     go false e = e
 
-module _ (actions details : List ℕ) where
-  -- the test that the code makes of a wire's source
-  abbrev pub taken_by : Wire → Bool
-  taken_by w = eqb (get_or actions w.source.node_id 0) 3 && eqb w.source.port (get_or details w.source.node_id 0)
+-- one wire w, the i-th, as the code goes
+module _ (ws : List Wire) (test : Wire → Bool) (first next : List ℕ) (i : ℕ) (h : i < length ws) (f : Within ws) (l : Linked ws (leaves test) first next (i + 1)) (w : Wire) (e : w ≡ get_or ws i no_wire) where
+  pub picked_on : test w ≡ true → Linked ws (leaves test) (set first w.source.node_id (i + 1)) (set next i (get_or first w.source.node_id 0)) i
+  picked_on t =
+      rw e (linked_on ws (leaves test) first next i h l _ (f.source i h) f.few (rw (eq-eqb (get_or ws i no_wire).source.node_id _ refl) (rw e at t)) (λ b n. rw (ne_eqb (get_or ws i no_wire).source.node_id b (λ q. n (sym q))) refl))
 
-  takes_own : (w : Wire) → takes actions details w.source.node_id w ≡ taken_by w
-  unfolding takes is_port
-  takes_own w = rw (eq-eqb w.source.node_id _ refl)
+  pub picked_not : test w ≡ false → Linked ws (leaves test) first next i
+  picked_not t = linked_not ws (leaves test) first next i h l (λ b. rw (rw e at t) (and-false (eqb (get_or ws i no_wire).source.node_id b)))
 
-  takes_other : (w : Wire) (b : ℕ) → (b ≡ w.source.node_id → ⊥) → takes actions details b w ≡ false
-  unfolding takes is_port
-  takes_other w b h = rw (ne_eqb w.source.node_id b (λ e. h (sym e))) (and-false (eqb (get_or actions b 0) 3))
+module _ (ws : List Wire) (actions details : List ℕ) (n : ℕ) (s : Shaped ws n actions details) (few : n ≤ max_nodes) where
+  branch_low : (b : ℕ) → get_or actions b 0 ≡ 3 → b < max_nodes
+  branch_low b h = omega (arith, planned_low ws actions details n s b (λ e. let z : ◌≡◌ {A = ℕ} 3 0 = sym h ∙ e in omega arith))
 
-  -- a wire that its own source node does not take, no node takes
-  takes_not : (w : Wire) → taken_by w ≡ false → (b : ℕ) → takes actions details b w ≡ false
-  takes_not w h b = pick (ℕ_discrete b w.source.node_id)
+  -- the wires that a planned Branch takes, by the test that the code makes of their sources
+  taken_by : (b : ℕ) → get_or actions b 0 ≡ 3 → (w : Wire) → (eqb w.source.node_id b && takes_from actions details w.source) ≡ is_port w.source b (get_or details b 0)
+  unfolding is_port
+  taken_by b h w = pick (ℕ_discrete w.source.node_id b)
     where
-      pick : Dec (b ≡ w.source.node_id) → takes actions details b w ≡ false
-      pick (yes e) = rw e (takes_own w ∙ h)
-      pick (no e) = takes_other w b e
+      pick : Dec (w.source.node_id ≡ b) → (eqb w.source.node_id b && (eqb (get_or actions w.source.node_id 0) 3 && eqb w.source.port (get_or details w.source.node_id 0))) ≡ (eqb w.source.node_id b && eqb w.source.port (get_or details b 0))
+      pick (yes e) = rw (e, eq-eqb b b refl, h)
+      pick (no e) = rw (ne_eqb w.source.node_id b e)
 
-  module _ (counts : List ℕ) where
-    lives_by : (w : Wire) (b : ℕ) (t : Bool) → takes actions details b w ≡ t → lives actions details counts b w ≡ (t && ltb 0 (count_in actions counts w.target))
-    unfolding lives
-    lives_by w b t e = rw e
+  pub taken_end : (first next : List ℕ) → Linked ws (leaves (λ w. takes_from actions details w.source)) first next 0 → Taken ws actions details first next
+  unfolding taken_wires
+  taken_end first next l =
+      record {
+        first_long = l.first_long;
+        later = l.later;
+        chain = λ b h. rw (← keep_same _ _ (taken_by b h) ws) (l.chain b (branch_low b h));
+      }
 
-    lives_dead : (w : Wire) → count_in actions counts w.target ≡ 0 → (b : ℕ) → lives actions details counts b w ≡ false
-    lives_dead w e b = lives_by w b (takes actions details b w) refl ∙ rw e (and-false (takes actions details b w))
+  live_same : (counts : List ℕ) (b : ℕ) → get_or actions b 0 ≡ 3 → keep (leaves (λ w. takes_from actions details w.source && ltb 0 (count_in actions counts w.target)) b) ws ≡ live_wires ws actions details counts b
+  unfolding live_wires taken_wires
+  live_same counts b h =
+      keep_same _ (λ w. is_port w.source b (get_or details b 0) && ltb 0 (count_in actions counts w.target)) (λ w. sym (and_assoc (eqb w.source.node_id b) (takes_from actions details w.source) (ltb 0 (count_in actions counts w.target))) ∙ ap (λ (x : Bool). x && ltb 0 (count_in actions counts w.target)) (taken_by b h w)) ws
+      ∙ keep_keep (λ w. is_port w.source b (get_or details b 0)) (λ w. ltb 0 (count_in actions counts w.target)) ws
 
-  -- one wire w, the i-th, as the code goes
-  module _ (ws : List Wire) (first next : List ℕ) (i : ℕ) (h : i < length ws) (f : Within ws) (w : Wire) (e : w ≡ get_or ws i no_wire) where
-    low : w.source.node_id < max_nodes
-    low = rw e (f.source i h)
+  pub live_end : (counts first next : List ℕ) → Linked ws (leaves (λ w. takes_from actions details w.source && ltb 0 (count_in actions counts w.target))) first next 0 → Live ws actions details counts first next
+  live_end counts first next l =
+      record {
+        first_long = l.first_long;
+        later = l.later;
+        chain = λ b h. subst (Chain ws next (get_or first b 0)) (live_same counts b h) (l.chain b (branch_low b h));
+      }
 
-    module _ (l : Linked ws (takes actions details) first next (i + 1)) where
-      pub taken_on : (first' next' : List ℕ) → taken_by w ≡ true → first' ≡ set first w.source.node_id (i + 1) → next' ≡ set next i (get_or first w.source.node_id 0) → Linked ws (takes actions details) first' next' i
-      taken_on first' next' t p q =
-          rw (p, q) (linked_on ws (takes actions details) first next i h l w.source.node_id low f.few (rw (← e) (takes_own w ∙ t)) (λ b n. rw (← e) (takes_other w b n)))
-
-      pub taken_not : taken_by w ≡ false → Linked ws (takes actions details) first next i
-      taken_not t = linked_not ws (takes actions details) first next i h l (λ b. rw (← e) (takes_not w t b))
-
-    module _ (counts : List ℕ) (l : Linked ws (lives actions details counts) first next (i + 1)) where
-      pub live_on : (first' next' : List ℕ) → taken_by w ≡ true → 0 < count_in actions counts w.target → first' ≡ set first w.source.node_id (i + 1) → next' ≡ set next i (get_or first w.source.node_id 0) → Linked ws (lives actions details counts) first' next' i
-      live_on first' next' t v p q =
-          rw (p, q) (linked_on ws (lives actions details counts) first next i h l w.source.node_id low f.few (rw (← e) (lives_by counts w _ true (takes_own w ∙ t) ∙ lt-ltb 0 _ v)) (λ b n. rw (← e) (lives_by counts w b false (takes_other w b n))))
-
-      pub live_dead : count_in actions counts w.target ≤ 0 → Linked ws (lives actions details counts) first next i
-      live_dead v = linked_not ws (lives actions details counts) first next i h l (λ b. rw (← e) (lives_dead counts w (omega arith) b))
-
-      pub live_not : taken_by w ≡ false → Linked ws (lives actions details counts) first next i
-      live_not t = linked_not ws (lives actions details counts) first next i h l (λ b. rw (← e) (lives_by counts w b false (takes_not w t b)))
-
-  module _ (ws : List Wire) (n : ℕ) (s : Shaped ws n actions details) (few : n ≤ max_nodes) where
-    branch_low : (b : ℕ) → get_or actions b 0 ≡ 3 → b < max_nodes
-    branch_low b h = omega (arith, planned_low ws actions details n s b (λ e. let z : ◌≡◌ {A = ℕ} 3 0 = sym h ∙ e in omega arith))
-
-    taken_same : (b : ℕ) → get_or actions b 0 ≡ 3 → keep (takes actions details b) ws ≡ taken_wires ws details b
-    unfolding takes taken_wires
-    taken_same b h = keep_same _ _ (λ w. rw h) ws
-
-    pub taken_end : (first next : List ℕ) → Linked ws (takes actions details) first next 0 → Taken ws actions details first next
-    taken_end first next l =
-        record { first_long = l.first_long; later = l.later; chain = λ b h. rw (← taken_same b h) (l.chain b (branch_low b h)) }
-
-    live_same : (counts : List ℕ) (b : ℕ) → get_or actions b 0 ≡ 3 → keep (lives actions details counts b) ws ≡ live_wires ws actions details counts b
-    unfolding lives live_wires
-    live_same counts b h = keep_keep (takes actions details b) (λ w. ltb 0 (count_in actions counts w.target)) ws ∙ ap (keep (λ w. ltb 0 (count_in actions counts w.target))) (taken_same b h)
-
-    pub live_end : (counts first next : List ℕ) → Linked ws (lives actions details counts) first next 0 → Live ws actions details counts first next
-    live_end counts first next l =
-        record { first_long = l.first_long; later = l.later; chain = λ b h. rw (← live_same counts b h) (l.chain b (branch_low b h)) }
-
-    -- there is no Branch
-    pub live_none : (counts first next : List ℕ) → first ≡ replicate max_nodes 0 → Later ws next → ((b : ℕ) → b < n → get_or actions b 0 ≡ 3 → ⊥) → Live ws actions details counts first next
-    live_none counts first next e l none-planned =
-        record {
-          first_long = ap length e ∙ length-replicate {A = ℕ} max_nodes 0;
-          later = l;
-          chain = λ b h. absurd (none-planned b (planned_low ws actions details n s b (λ q. let z : ◌≡◌ {A = ℕ} 3 0 = sym h ∙ q in omega arith)) h);
-        }
+  -- there is no Branch
+  pub live_none : (counts first next : List ℕ) → length first ≡ max_nodes → Later ws next → ((b : ℕ) → b < n → get_or actions b 0 ≡ 3 → ⊥) → Live ws actions details counts first next
+  live_none counts first next e l none-planned =
+      record {
+        first_long = e;
+        later = l;
+        chain = λ b h. absurd (none-planned b (planned_low ws actions details n s b (λ q. let z : ◌≡◌ {A = ℕ} 3 0 = sym h ∙ q in omega arith)) h);
+      }

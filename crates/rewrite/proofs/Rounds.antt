@@ -1,10 +1,10 @@
 -- Rounds only add counts, and as many rounds as there are nodes find all.
+use Rattle.std.specs.Prelude.{Option, None, Some}
 use Prim.Native.Nat.{ℕ, zero, suc, ◌<◌, ◌≤◌, max}
 use native.Mathlib.Omega.{arith}
 use native.Mathlib.Decide.{le_ind}
 use mathlib.Core.Path.{◌≡◌, refl}
 use mathlib.Core.Bool.{Bool, true, false, cond}
-use mathlib.Core.Option.{Option, none, some}
 use mathlib.Core.List.{List}
 use lib.Dec.{eqb}
 use Rattle.ir.specs.Ports.{exec}
@@ -20,12 +20,12 @@ use Rattle.rewrite.proofs.Totals.{total_more}
 
 at_more : (t u : ℕ → Option ℕ) → t ⊑ u → (o : Option PlanAction) (e : PortRef) → count_at t o e ≼ count_at u o e
 unfolding count_at
-at_more t u le none e a q = q
-at_more t u le (some (BecomeLiteral v)) e a q = q
-at_more t u le (some (ShortCircuit s)) e a q = q
-at_more t u le (some (Truncate ts)) e a q = go (eqb e.port exec) q
+at_more t u le None e a q = q
+at_more t u le (Some (BecomeLiteral v)) e a q = q
+at_more t u le (Some (ShortCircuit s)) e a q = q
+at_more t u le (Some (Truncate ts)) e a q = go (eqb e.port exec) q
   where
-    go : (b : Bool) → cond b (t e.node_id) (some 0) ≡ some a → cond b (u e.node_id) (some 0) ≡ some a
+    go : (b : Bool) → cond b (t e.node_id) (Some 0) ≡ Some a → cond b (u e.node_id) (Some 0) ≡ Some a
     go true q = le e.node_id a q
     go false q = q
 
@@ -43,27 +43,27 @@ module _ (p : Map PlanAction) where
   rounds_more i k h b = le_ind (λ m. rounds p i b ≼ rounds p m b) (λ a q. q) (λ m l ih a q. rounds_suc m b a (ih a q)) k h
 
   -- two rounds that have a count have the same
-  pub rounds_agree : (i k b m n : ℕ) → rounds p i b ≡ some m → rounds p k b ≡ some n → m ≡ n
+  pub rounds_agree : (i k b m n : ℕ) → rounds p i b ≡ Some m → rounds p k b ≡ Some n → m ≡ n
   rounds_agree i k b m n e q =
-      let x : rounds p (max i k) b ≡ some m = rounds_more i (max i k) (omega arith) b m e in
-      let y : rounds p (max i k) b ≡ some n = rounds_more k (max i k) (omega arith) b n q in
+      let x : rounds p (max i k) b ≡ Some m = rounds_more i (max i k) (omega arith) b m e in
+      let y : rounds p (max i k) b ≡ Some n = rounds_more k (max i k) (omega arith) b n q in
       cc
 
-  module _ (n : ℕ) (low : (x : ℕ) (q : PlanAction) → p x ≡ some q → x < n) where
+  module _ (n : ℕ) (low : (x : ℕ) (q : PlanAction) → p x ≡ Some q → x < n) where
     settle : (k : ℕ) (e : PortRef) → reach p k e ≼ reach p n e
     settle k e xs r = go (reach p n e) refl
       where
-        go : (o : Option (List PortRef)) → reach p n e ≡ o → reach p n e ≡ some xs
-        go none q = absurd (no_target_cycle p k e xs r ((target_cycle p n low e).0 q))
-        go (some ys) q =
-            let a : reach p (max k n) e ≡ some xs = reach_more p k (max k n) (omega arith) e xs r in
-            let b : reach p (max k n) e ≡ some ys = reach_more p n (max k n) (omega arith) e ys q in
+        go : (o : Option (List PortRef)) → reach p n e ≡ o → reach p n e ≡ Some xs
+        go None q = absurd (no_target_cycle p k e xs r ((target_cycle p n low e).0 q))
+        go (Some ys) q =
+            let a : reach p (max k n) e ≡ Some xs = reach_more p k (max k n) (omega arith) e xs r in
+            let b : reach p (max k n) e ≡ Some ys = reach_more p n (max k n) (omega arith) e ys q in
             cc
 
     capped_more : (o q : Option (List PortRef)) → o ≼ q → capped_length o ≼ capped_length q
     unfolding capped_length
-    capped_more none q h a e = none_some a e
-    capped_more (some xs) q h a e = rw (h xs refl, capped_length) e
+    capped_more None q h a e = none_some a e
+    capped_more (Some xs) q h a e = rw (h xs refl, capped_length) e
 
     -- what any round finds, as many rounds as there are nodes find
     pub count_settles : (k : ℕ) (e : PortRef) → count_at (rounds p k) (p e.node_id) e ≼ capped_length (reach p n e)

@@ -1,10 +1,10 @@
 -- The steps of the search, and what it comes to.
+use Rattle.std.specs.Prelude.{Option, Some}
 use Prim.Native.Nat.{ℕ, suc, ◌+◌, ◌≤◌, ◌<◌}
 use native.Mathlib.Omega.{arith}
 use native.Mathlib.Decide.{ℕ_discrete, dec_lt}
 use mathlib.Core.Path.{◌≡◌, refl, sym, ap, subst, ◌∙◌}
 use mathlib.Core.Bool.{Bool, true, false, cond, true≢false, false≢true}
-use mathlib.Core.Option.{Option, some}
 use mathlib.Core.List.{List, [], ◌∷◌, ◌++◌}
 use mathlib.Core.Logic.{◌⊎◌, inl, inr, ⊎_elim}
 use lib.Dec.{eqb}
@@ -83,25 +83,25 @@ stack_set stack (b ∷ bs) depth i v h (d, e, q, s) =
 
 module _ (ws : List Wire) (actions details counts : List ℕ) (listed : (m : ℕ) → get_or actions m 0 ≤ 3) where
   -- the count at a target is that of a round, where the Branches' counts are
-  pub count_sound : (k : ℕ) → ((b : ℕ) → get_or actions b 0 ≡ 3 → get_or counts b 0 < no_count → rounds (shape_of ws actions details) k b ≡ some (get_or counts b 0)) → (e : PortRef) → entry (count_in actions counts e) ≼ count_at (rounds (shape_of ws actions details) k) (shape_of ws actions details e.node_id) e
+  pub count_sound : (k : ℕ) → ((b : ℕ) → get_or actions b 0 ≡ 3 → get_or counts b 0 < no_count → rounds (shape_of ws actions details) k b ≡ Some (get_or counts b 0)) → (e : PortRef) → entry (count_in actions counts e) ≼ count_at (rounds (shape_of ws actions details) k) (shape_of ws actions details e.node_id) e
   unfolding count_in count_at
   count_sound k sound e a = go (action (get_or actions e.node_id 0) (listed _))
     where
       p : ℕ → Option PlanAction
       p = shape_of ws actions details
 
-      by_port : (y : Bool) → get_or actions e.node_id 0 ≡ 3 → entry (cond y (get_or counts e.node_id 0) 0) ≡ some a → cond y (rounds (shape_of ws actions details) k e.node_id) (some 0) ≡ some a
-      by_port true h q = let (z, l) = entry_is (get_or counts e.node_id 0) a q in sound e.node_id h l ∙ ap some z
+      by_port : (y : Bool) → get_or actions e.node_id 0 ≡ 3 → entry (cond y (get_or counts e.node_id 0) 0) ≡ Some a → cond y (rounds (shape_of ws actions details) k e.node_id) (Some 0) ≡ Some a
+      by_port true h q = let (z, l) = entry_is (get_or counts e.node_id 0) a q in sound e.node_id h l ∙ ap Some z
       by_port false h q = sym (entry_some 0 (omega arith)) ∙ q
 
-      go : Action (get_or actions e.node_id 0) → entry (count_in actions counts e) ≡ some a → count_at (rounds (shape_of ws actions details) k) (shape_of ws actions details e.node_id) e ≡ some a
+      go : Action (get_or actions e.node_id 0) → entry (count_in actions counts e) ≡ Some a → count_at (rounds (shape_of ws actions details) k) (shape_of ws actions details e.node_id) e ≡ Some a
       go (kept h) q = rw (shape_kept ws actions details _ h) (sym (entry_some 1 (omega arith)) ∙ rw h at q)
       go (literal h) q = rw (shape_literal ws actions details _ h) (sym (entry_some 0 (omega arith)) ∙ rw h at q)
       go (select h) q = rw (shape_select ws actions details _ h) (sym (entry_some 0 (omega arith)) ∙ rw h at q)
       go (branch h) q = rw (shape_branch ws actions details _ h) (by_port (eqb e.port exec) h (rw h at q))
 
   -- a Branch whose targets all have a count has the sum, one round later
-  pub round_sum : (k : ℕ) → ((b : ℕ) → get_or actions b 0 ≡ 3 → get_or counts b 0 < no_count → rounds (shape_of ws actions details) k b ≡ some (get_or counts b 0)) → (b v : ℕ) → get_or actions b 0 ≡ 3 → sum_of actions counts (taken_wires ws details b) ≡ some v → rounds (shape_of ws actions details) (suc k) b ≡ some v
+  pub round_sum : (k : ℕ) → ((b : ℕ) → get_or actions b 0 ≡ 3 → get_or counts b 0 < no_count → rounds (shape_of ws actions details) k b ≡ Some (get_or counts b 0)) → (b v : ℕ) → get_or actions b 0 ≡ 3 → sum_of actions counts (taken_wires ws details b) ≡ Some v → rounds (shape_of ws actions details) (suc k) b ≡ Some v
   unfolding sum_of taken_wires targets_in rounds round taken_targets
   round_sum k sound b v h r = rw (shape_branch ws actions details b h) (total_more _ _ (count_sound k sound) (targets_in ws b (get_or details b 0)) v r)
 
@@ -187,7 +187,7 @@ module _ (ws : List Wire) (actions details next : List ℕ) where
       ahead₁ : (x : ℕ) → get_or actions x 0 ≡ 3 → get_or counts₁ x 0 ≡ unseen → Chain ws next (get_or first x 0) (taken_wires ws details x)
       ahead₁ x k e = same_or_not x b (λ q. let z : get_or counts₁ x 0 ≡ no_count = rw q self₁ in absurd (omega arith)) (λ q. s.ahead x k (sym (other₁ x q) ∙ e))
 
-      sound₁ : (x : ℕ) → get_or actions x 0 ≡ 3 → get_or counts₁ x 0 < no_count → rounds (shape_of ws actions details) s.level x ≡ some (get_or counts₁ x 0)
+      sound₁ : (x : ℕ) → get_or actions x 0 ≡ 3 → get_or counts₁ x 0 < no_count → rounds (shape_of ws actions details) s.level x ≡ Some (get_or counts₁ x 0)
       sound₁ x k l = same_or_not x b (λ q. let z : get_or counts₁ x 0 ≡ no_count = rw q self₁ in absurd (omega arith)) (λ q. rw (other₁ x q) (s.sound x k (rw (other₁ x q) at l)))
 
       frame₁ : Frame ws actions details first next counts₁ sums₁ b
@@ -200,7 +200,7 @@ module _ (ws : List Wire) (actions details next : List ℕ) where
             rest = taken_wires ws details b;
             split = refl;
             chain = s.ahead b h u;
-            sum = sum_nil actions counts₁ ∙ ap some (sym (get_or-set_same sums b 0 0 (omega (arith, s.sums_long, branch_inside b h))));
+            sum = sum_nil actions counts₁ ∙ ap Some (sym (get_or-set_same sums b 0 0 (omega (arith, s.sums_long, branch_inside b h))));
           }
 
       frames₁ : All (Frame ws actions details first next counts₁ sums₁) s.path
@@ -297,7 +297,7 @@ module _ (ws : List Wire) (actions details next : List ℕ) where
 
       -- how far it has come is stored
 
-      pub stored : (code v : ℕ) (passed rest : List Wire) → taken_wires ws details b ≡ passed ++ rest → Chain ws next code rest → sum_of actions counts passed ≡ some v
+      pub stored : (code v : ℕ) (passed rest : List Wire) → taken_wires ws details b ≡ passed ++ rest → Chain ws next code rest → sum_of actions counts passed ≡ Some v
           → (t : Searching ws actions details (set first b code) next counts (set sums b v) stack depth) × (t.path ≡ b ∷ bs)
       stored code v passed rest e c r = (
         record {
@@ -334,12 +334,12 @@ module _ (ws : List Wire) (actions details next : List ℕ) where
                 rest = rest;
                 split = e;
                 chain = rw (get_or-set_same first b code 0 (omega (arith, s.first_long, inside))) c;
-                sum = r ∙ ap some (sym (get_or-set_same sums b v 0 (omega (arith, s.sums_long, inside))));
+                sum = r ∙ ap Some (sym (get_or-set_same sums b v 0 (omega (arith, s.sums_long, inside))));
               }
 
       -- it gets its count
 
-      module _ (d v : ℕ) (below : Stacked stack d bs) (low : v < no_count) (r : sum_of actions counts (taken_wires ws details b) ≡ some v) where
+      module _ (d v : ℕ) (below : Stacked stack d bs) (low : v < no_count) (r : sum_of actions counts (taken_wires ws details b) ≡ Some v) where
         counts₃ : List ℕ
         counts₃ = set counts b v
 
@@ -359,7 +359,7 @@ module _ (ws : List Wire) (actions details next : List ℕ) where
         unfolding counts₃
         more₃ = sum_more actions counts b v (omega (arith, s.counts_long, inside)) (omega (arith, top_frames.0.pending))
 
-        sound₃ : (x : ℕ) → get_or actions x 0 ≡ 3 → get_or counts₃ x 0 < no_count → rounds (shape_of ws actions details) (suc s.level) x ≡ some (get_or counts₃ x 0)
+        sound₃ : (x : ℕ) → get_or actions x 0 ≡ 3 → get_or counts₃ x 0 < no_count → rounds (shape_of ws actions details) (suc s.level) x ≡ Some (get_or counts₃ x 0)
         sound₃ x k l =
             same_or_not x b
             (λ q. rw (q, self₃) (round_sum ws actions details counts s.actions_listed s.level s.sound b v top_frames.0.branch r))

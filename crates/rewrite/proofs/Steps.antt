@@ -1,9 +1,9 @@
 -- What the search does in one step, as the code goes.
+use Rattle.std.specs.Prelude.{Some}
 use Prim.Native.Nat.{ℕ, ◌+◌, ◌-◌, ◌*◌, ◌≤◌, ◌<◌}
 use native.Mathlib.Omega.{arith}
 use mathlib.Core.Path.{◌≡◌, refl, sym, ap, subst, ◌∙◌}
 use mathlib.Core.Bool.{◌&&◌}
-use mathlib.Core.Option.{some}
 use mathlib.Core.List.Memᴰ
 use mathlib.Core.List.{List, [], ◌∷◌, ◌++◌, append_assoc, append-nil}
 use lib.Dec.{eqb}
@@ -16,12 +16,13 @@ use Rattle.ir.specs.declared.Wire.{Wire}
 use Rattle.graph.proofs.Roles.{and_left, and_right}
 use Rattle.records.specs.Access.{no_wire}
 use Rattle.model.proofs.Maps.{by_bool}
-use Rattle.wire_index.proofs.Chains.{chain_code, chain_end, chain_step}
+use Rattle.wire_index.proofs.Walks.{chain_code, chain_end, chain_step}
 use Rattle.state.specs.Planned.{targets_in}
 use Rattle.rewrite.specs.Counts.{no_count, count_in}
 use Rattle.rewrite.specs.Taken.{taken_wires}
 use Rattle.rewrite.specs.Search.{unseen, unseen_in, sum_of, Walked, Walks, Waits, Frame, Above, Stacked, Searching, Sought, Stepped}
 use Rattle.rewrite.specs.declared.counts.Reached.{Reached}
+use Rattle.rewrite.specs.declared.counts.Search.{Search}
 use Rattle.rewrite.proofs.Totals.{sum_low, sum_on, unseen_less, unseen_same}
 use Rattle.rewrite.proofs.Searching.{branch_inside, room, entered, entered_seen, cleared, top_frames, stored, finished, finished_seen}
 
@@ -93,12 +94,12 @@ module _ (ws : List Wire) (actions next first counts sums stack : List ℕ) (dep
       unfolding passed
       passed_split = frame.split ∙ ap (◌++◌ frame.passed) along.split ∙ sym (append_assoc frame.passed along.passed along.rest)
 
-      passed_sum : sum_of actions counts passed ≡ some r.sum
+      passed_sum : sum_of actions counts passed ≡ Some r.sum
       unfolding passed
       passed_sum = sum_on actions counts _ _ frame.passed along.passed frame.sum along.sums
 
       -- at the end of its chain: the count is found
-      all_sum : r.code ≡ 0 → sum_of actions counts (taken_wires ws details b) ≡ some r.sum
+      all_sum : r.code ≡ 0 → sum_of actions counts (taken_wires ws details b) ≡ Some r.sum
       all_sum e =
           rw (passed_split ∙ ap (◌++◌ passed) (chain_end along.chain e) ∙ append-nil passed) passed_sum
 
@@ -159,32 +160,32 @@ module _ (ws : List Wire) (actions next first counts sums stack : List ℕ) (dep
           unfolding wire
           enter_room = room ws actions details next first counts sums stack depth s wire.target.node_id entry'.branch u
 
-  module _ (deep : 0 < depth) (q : Sought ws actions first next counts sums stack depth) (b : ℕ) (at : b ≡ get_or stack (depth - 1) 0) (r : Reached) (w : Walks ws actions counts next (get_or first b 0) (get_or sums b 0) r) where
-    pub step_finishes : r.code ≡ 0 → Stepped ws actions next first counts sums stack depth first (set counts b r.sum) sums stack (depth - 1)
-    step_finishes e =
+module _ (ws : List Wire) (actions next : List ℕ) (s : Search) (deep : 0 < s.depth) (q : Sought ws actions next s) (b : ℕ) (at : b ≡ get_or s.stack (s.depth - 1) 0) (r : Reached) (w : Walks ws actions s.counts next (get_or s.first b 0) (get_or s.sums b 0) r) where
+  pub step_finishes : r.code ≡ 0 → Stepped ws actions next s (record s { counts = set s.counts b r.sum; depth = s.depth - 1 })
+  step_finishes e =
+      record {
+        goes = λ details f. finish_goes ws actions next s.first s.counts s.sums s.stack s.depth deep details f b at r w e;
+        seen = finish_seen ws actions next s.first s.counts s.sums s.stack s.depth deep q.details q.searching b at r w e;
+        less = finish_less ws actions next s.first s.counts s.sums s.stack s.depth deep q.details q.searching b at r w;
+      }
+
+  module _ (node : ℕ) (there : node ≡ (get_or ws (r.code - 1) no_wire).target.node_id) (more : 0 < r.code) where
+    pub step_clears : (get_or s.counts node 0 ≡ unseen → ⊥) → Stepped ws actions next s (record s { depth = 0 })
+    step_clears n =
         record {
-          goes = λ details s. finish_goes deep details s b at r w e;
-          seen = finish_seen deep q.details q.searching b at r w e;
-          less = finish_less deep q.details q.searching b at r w;
+          goes = λ details f. clear_goes ws actions next s.first s.counts s.sums s.stack s.depth deep details f b at r w more (rw there at n);
+          seen = λ x l. l;
+          less = omega arith;
         }
 
-    module _ (node : ℕ) (there : node ≡ (get_or ws (r.code - 1) no_wire).target.node_id) (more : 0 < r.code) where
-      pub step_clears : (get_or counts node 0 ≡ unseen → ⊥) → Stepped ws actions next first counts sums stack depth first counts sums stack 0
-      step_clears n =
-          record {
-            goes = λ details s. clear_goes deep details s b at r w more (rw there at n);
-            seen = λ x l. l;
-            less = omega arith;
+    module _ (u : get_or s.counts node 0 ≡ unseen) where
+      pub step_room : s.depth < max_nodes
+      step_room = enter_room ws actions next s.first s.counts s.sums s.stack s.depth deep q.details q.searching b at r w more (rw there at u)
+
+      pub step_enters : Stepped ws actions next s (record { first = set s.first b r.code; counts = set s.counts node no_count; sums = set (set s.sums b r.sum) node 0; stack = set s.stack s.depth node; depth = s.depth + 1 })
+      step_enters =
+          rw there record {
+            goes = λ details f. enter_goes ws actions next s.first s.counts s.sums s.stack s.depth deep details f b at r w more (rw there at u);
+            seen = enter_seen ws actions next s.first s.counts s.sums s.stack s.depth deep q.details q.searching b at r w more (rw there at u);
+            less = enter_less ws actions next s.first s.counts s.sums s.stack s.depth deep q.details q.searching b at r w more (rw there at u);
           }
-
-      module _ (u : get_or counts node 0 ≡ unseen) where
-        pub step_room : depth < max_nodes
-        step_room = enter_room deep q.details q.searching b at r w more (rw there at u)
-
-        pub step_enters : Stepped ws actions next first counts sums stack depth (set first b r.code) (set counts node no_count) (set (set sums b r.sum) node 0) (set stack depth node) (depth + 1)
-        step_enters =
-            rw there record {
-              goes = λ details s. enter_goes deep details s b at r w more (rw there at u);
-              seen = enter_seen deep q.details q.searching b at r w more (rw there at u);
-              less = enter_less deep q.details q.searching b at r w more (rw there at u);
-            }

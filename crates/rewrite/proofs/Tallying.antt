@@ -1,10 +1,10 @@
 -- How many wires each wire becomes, and all together.
+use Rattle.std.specs.Prelude.{Option, None, Some}
 use Prim.Native.Nat.{ℕ, suc, ◌+◌, ◌≤◌, ◌<◌, min}
 use native.Mathlib.Omega.{arith}
 use native.Mathlib.Numerals.{add-one}
 use mathlib.Core.Path.{◌≡◌, refl, sym, ap, ◌∙◌}
 use mathlib.Core.Bool.{Bool, true, false, cond, ◌&&◌, ◌||◌}
-use mathlib.Core.Option.{Option, none, some}
 use mathlib.Core.List.{List, [], ◌∷◌}
 use mathlib.Core.Logic.{◌⊎◌, inl, inr}
 use lib.Dec.{eqb}
@@ -34,25 +34,25 @@ use Rattle.rewrite.proofs.Totals.{entry_some, entry_none, zero_plus, plus_zero}
 
 -- ---- one wire
 
-joined_none : (o : Option (List PortRef)) (s : Source) → capped_length o ≡ none → size_of (joined o s) ≡ none
+joined_none : (o : Option (List PortRef)) (s : Source) → capped_length o ≡ None → size_of (joined o s) ≡ None
 unfolding size_of joined capped_length
-joined_none none s e = refl
-joined_none (some xs) s e = none_some _ (sym e)
+joined_none None s e = refl
+joined_none (Some xs) s e = none_some _ (sym e)
 
-joined_nil : (o : Option (List PortRef)) (s : Source) → capped_length o ≡ some 0 → size_of (joined o s) ≡ some 0
+joined_nil : (o : Option (List PortRef)) (s : Source) → capped_length o ≡ Some 0 → size_of (joined o s) ≡ Some 0
 unfolding size_of joined capped_length cap
-joined_nil none s e = none_some 0 e
-joined_nil (some []) s e = refl
-joined_nil (some (x ∷ xs)) s e = let q : min (length (x ∷ xs)) 4097 ≡ 0 = cc in let b : ⊥ = omega arith in absurd b
+joined_nil None s e = none_some 0 e
+joined_nil (Some []) s e = refl
+joined_nil (Some (x ∷ xs)) s e = let q : min (length (x ∷ xs)) 4097 ≡ 0 = cc in let b : ⊥ = omega arith in absurd b
 
-joined_some : (o : Option (List PortRef)) (s : Source) (v : ℕ) → capped_length o ≡ some v → 0 < v → v < no_count → entry (by_origin (origin_of s) v) ≡ size_of (joined o s)
+joined_some : (o : Option (List PortRef)) (s : Source) (v : ℕ) → capped_length o ≡ Some v → 0 < v → v < no_count → entry (by_origin (origin_of s) v) ≡ size_of (joined o s)
 unfolding size_of joined capped_length origin_of cap
-joined_some none s v e h k = none_some v e
-joined_some (some []) s v e h k = let q : 0 ≡ v = cc in let b : ⊥ = omega arith in absurd b
-joined_some (some (x ∷ xs)) cycles v e h k = entry_none no_count (omega arith)
-joined_some (some (x ∷ xs)) drops v e h k = entry_some 0 (omega arith)
-joined_some (some (x ∷ xs)) (from d) v e h k =
-    entry_some v k ∙ sym e ∙ ap (λ (n : ℕ). some (cap n)) (sym (length-map (x ∷ xs) (λ u. record { source = d; target = u })))
+joined_some None s v e h k = none_some v e
+joined_some (Some []) s v e h k = let q : 0 ≡ v = cc in let b : ⊥ = omega arith in absurd b
+joined_some (Some (x ∷ xs)) cycles v e h k = entry_none no_count (omega arith)
+joined_some (Some (x ∷ xs)) drops v e h k = entry_some 0 (omega arith)
+joined_some (Some (x ∷ xs)) (from d) v e h k =
+    entry_some v k ∙ sym e ∙ ap (λ (n : ℕ). Some (cap n)) (sym (length-map (x ∷ xs) (λ u. record { source = d; target = u })))
 
 count_low : (actions counts : List ℕ) (e : PortRef) → ((b : ℕ) → get_or actions b 0 ≡ 3 → get_or counts b 0 ≤ no_count) → count_in actions counts e ≤ no_count
 unfolding count_in
@@ -109,39 +109,39 @@ module _ (ws : List Wire) (actions sources counts : List ℕ) (i : ℕ) (w : Wir
 
 size_both : (o q : Option (List Wire)) → size_of (both o q) ≡ plus (size_of o) (size_of q)
 unfolding size_of both plus cap
-size_both none q = refl
-size_both (some xs) none = refl
-size_both (some xs) (some ys) = ap some (omega (arith, length-append xs ys))
+size_both None q = refl
+size_both (Some xs) None = refl
+size_both (Some xs) (Some ys) = ap Some (omega (arith, length-append xs ys))
 
-size_none : (o : Option (List Wire)) → size_of o ≡ none → (o ≡ none) × (is_some o ≡ false)
+size_none : (o : Option (List Wire)) → size_of o ≡ None → (o ≡ None) × (is_some o ≡ false)
 unfolding size_of is_some
-size_none none e = (refl, refl)
-size_none (some xs) e = none_some _ (sym e)
+size_none None e = (refl, refl)
+size_none (Some xs) e = none_some _ (sym e)
 
-size_some : (o : Option (List Wire)) (m : ℕ) → size_of o ≡ some m → ((xs : List Wire) × (o ≡ some xs) × (m ≡ cap (length xs))) × (is_some o ≡ true)
+size_some : (o : Option (List Wire)) (m : ℕ) → size_of o ≡ Some m → ((xs : List Wire) × (o ≡ Some xs) × (m ≡ cap (length xs))) × (is_some o ≡ true)
 unfolding size_of is_some
-size_some none m e = none_some m e
-size_some (some xs) m e = ((xs, refl, cc), refl)
+size_some None m e = none_some m e
+size_some (Some xs) m e = ((xs, refl, cc), refl)
 
-plus_none : (o : Option ℕ) → plus o none ≡ none
+plus_none : (o : Option ℕ) → plus o None ≡ None
 unfolding plus
-plus_none none = refl
-plus_none (some m) = refl
+plus_none None = refl
+plus_none (Some m) = refl
 
-plus_some : (m n : ℕ) → plus (some m) (some n) ≡ some (cap (m + n))
+plus_some : (m n : ℕ) → plus (Some m) (Some n) ≡ Some (cap (m + n))
 unfolding plus
 plus_some m n = refl
 
 module _ (p : Map PlanAction) (n : ℕ) (ws : List Wire) where
   -- the first i wires end, and become so many
   pub record Passed (i count : ℕ) : Type 0 where
-    pub sums : plus (some count) (size_of (rewrite_wires p n (drop i ws))) ≡ size_of (rewrite_wires p n ws)
+    pub sums : plus (Some count) (size_of (rewrite_wires p n (drop i ws))) ≡ size_of (rewrite_wires p n ws)
     pub first : endless_index p n ws ≡ i + endless_index p n (drop i ws)
 
   pub passed_start : Passed 0 0
   passed_start = record { sums = zero_plus (size_of (rewrite_wires p n ws)) (size_low (rewrite_wires p n ws)); first = omega arith }
     where
-      size_low : (o : Option (List Wire)) (v : ℕ) → size_of o ≡ some v → v < no_count
+      size_low : (o : Option (List Wire)) (v : ℕ) → size_of o ≡ Some v → v < no_count
       size_low o v e = let q = (size_some o v e).0.2 in unfold cap in omega arith
 
   module _ (i count weight : ℕ) (h : i < length ws) (q : Passed i count) (w : entry weight ≡ size_of (rewrite_wire p n (get_or ws i no_wire))) where
@@ -155,32 +155,32 @@ module _ (p : Map PlanAction) (n : ℕ) (ws : List Wire) where
 
     pub passed_stuck : weight ≡ no_count → Stuck p n ws i
     passed_stuck e =
-        let a : entry weight ≡ none = entry_none weight (omega arith) in
-        let b : size_of (rewrite_wires p n (drop i ws)) ≡ none = next_size ∙ rw a (unfold plus in refl) in
-        let c : size_of (rewrite_wires p n ws) ≡ none = sym q.sums ∙ ap (plus (some count)) b ∙ plus_none (some count) in
+        let a : entry weight ≡ None = entry_none weight (omega arith) in
+        let b : size_of (rewrite_wires p n (drop i ws)) ≡ None = next_size ∙ rw a (unfold plus in refl) in
+        let c : size_of (rewrite_wires p n ws) ≡ None = sym q.sums ∙ ap (plus (Some count)) b ∙ plus_none (Some count) in
         let d : endless_index p n (drop i ws) ≡ 0 = next_index ∙ rw (size_none (rewrite_wire p n (get_or ws i no_wire)) (sym w ∙ a)).1 refl in
         record { endless = (size_none (rewrite_wires p n ws) c).0; first = omega (arith, q.first) }
 
     pub passed_next : weight < no_count → Passed (i + 1) (cap (count + weight))
     passed_next l =
-        let a : entry weight ≡ some weight = entry_some weight l in
+        let a : entry weight ≡ Some weight = entry_some weight l in
         let d : endless_index p n (drop i ws) ≡ suc (endless_index p n (drop (suc i) ws)) = next_index ∙ rw (size_some (rewrite_wire p n (get_or ws i no_wire)) weight (sym w ∙ a)).1 refl in
         record {
           sums = rw add-one (more a);
           first = rw add-one (omega (arith, q.first));
         }
       where
-        more : entry weight ≡ some weight → plus (some (cap (count + weight))) (size_of (rewrite_wires p n (drop (suc i) ws))) ≡ size_of (rewrite_wires p n ws)
+        more : entry weight ≡ Some weight → plus (Some (cap (count + weight))) (size_of (rewrite_wires p n (drop (suc i) ws))) ≡ size_of (rewrite_wires p n ws)
         more a =
             ap (λ (o : Option ℕ). plus o (size_of (rewrite_wires p n (drop (suc i) ws)))) (sym (plus_some count weight))
-            ∙ sym (plus_assoc (some count) (some weight) (size_of (rewrite_wires p n (drop (suc i) ws))))
-            ∙ ap (plus (some count)) (ap (λ (o : Option ℕ). plus o (size_of (rewrite_wires p n (drop (suc i) ws)))) (sym a) ∙ sym next_size)
+            ∙ sym (plus_assoc (Some count) (Some weight) (size_of (rewrite_wires p n (drop (suc i) ws))))
+            ∙ ap (plus (Some count)) (ap (λ (o : Option ℕ). plus o (size_of (rewrite_wires p n (drop (suc i) ws)))) (sym a) ∙ sym next_size)
             ∙ q.sums
 
   pub passed_end : (i count : ℕ) → i ≡ length ws → count < no_count → Passed i count → Counted p n ws count
   passed_end i count e l q =
-      let a : size_of (rewrite_wires p n (drop i ws)) ≡ some 0 = rw (e, drop-length ws) (unfold rewrite_wires collect size_of cap in refl) in
-      let b : size_of (rewrite_wires p n ws) ≡ some count = sym q.sums ∙ rw a (plus_zero count l) in
+      let a : size_of (rewrite_wires p n (drop i ws)) ≡ Some 0 = rw (e, drop-length ws) (unfold rewrite_wires collect size_of cap in refl) in
+      let b : size_of (rewrite_wires p n ws) ≡ Some count = sym q.sums ∙ rw a (plus_zero count l) in
       let c = (size_some (rewrite_wires p n ws) count b).0 in
       record { rewritten = c.0; ends = c.1; many = c.2 }
 

@@ -1,10 +1,10 @@
 -- Sums of counts.
+use Rattle.std.specs.Prelude.{Option, None, Some}
 use Prim.Native.Nat.{ℕ, zero, suc, ◌+◌, ◌≤◌, ◌<◌, min}
 use native.Mathlib.Omega.{arith}
 use native.Mathlib.Decide.{ℕ_discrete}
 use mathlib.Core.Path.{◌≡◌, refl, sym, ap, ◌∙◌}
 use mathlib.Core.Bool.{Bool, true, false, cond, ◌&&◌}
-use mathlib.Core.Option.{Option, none, some}
 use mathlib.Core.List.Memᴰ
 use mathlib.Core.List.{List, [], ◌∷◌, ◌++◌, map, Memᴰ, map-append}
 use mathlib.Core.Logic.{◌⊎◌, inl, inr}
@@ -23,37 +23,37 @@ use Rattle.rewrite.specs.Search.{unseen, unseen_in, sum_of}
 
 -- ---- entries
 
-pub entry_some : (v : ℕ) → v < no_count → entry v ≡ some v
+pub entry_some : (v : ℕ) → v < no_count → entry v ≡ Some v
 unfolding entry
 entry_some v h = rw (lt-ltb v no_count h)
 
-pub entry_none : (v : ℕ) → no_count ≤ v → entry v ≡ none
+pub entry_none : (v : ℕ) → no_count ≤ v → entry v ≡ None
 unfolding entry
 entry_none v h = rw (le-ltb v no_count h)
 
-pub entry_is : (v a : ℕ) → entry v ≡ some a → (v ≡ a) × (v < no_count)
+pub entry_is : (v a : ℕ) → entry v ≡ Some a → (v ≡ a) × (v < no_count)
 entry_is v a e = by_bool (ltb v no_count) (λ b. let h : v < no_count = ltb-true v no_count b in (cc (entry_some v h), h)) (λ b. none_some a (sym (entry_none v (ltb-false v no_count b)) ∙ e))
 
 -- ---- sums
 
 -- a number of targets that is already cut
 abbrev pub Low : Option ℕ → Type 0
-Low o = (v : ℕ) → o ≡ some v → v < no_count
+Low o = (v : ℕ) → o ≡ Some v → v < no_count
 
-pub zero_plus : (o : Option ℕ) → Low o → plus (some 0) o ≡ o
+pub zero_plus : (o : Option ℕ) → Low o → plus (Some 0) o ≡ o
 unfolding plus cap
-zero_plus none h = refl
-zero_plus (some v) h = ap some (omega (arith, h v refl))
+zero_plus None h = refl
+zero_plus (Some v) h = ap Some (omega (arith, h v refl))
 
-pub plus_zero : (v : ℕ) → v < no_count → plus (some v) (some 0) ≡ some v
+pub plus_zero : (v : ℕ) → v < no_count → plus (Some v) (Some 0) ≡ Some v
 unfolding plus cap
-plus_zero v h = ap some (omega arith)
+plus_zero v h = ap Some (omega arith)
 
 pub plus_low : (o q : Option ℕ) → Low (plus o q)
 unfolding plus cap
-plus_low none q v e = none_some v e
-plus_low (some m) none v e = none_some v e
-plus_low (some m) (some n) v e = let h : min (m + n) 4097 ≡ v = cc in omega arith
+plus_low None q v e = none_some v e
+plus_low (Some m) None v e = none_some v e
+plus_low (Some m) (Some n) v e = let h : min (m + n) 4097 ≡ v = cc in omega arith
 
 total_low : (f : PortRef → Option ℕ) (es : List PortRef) → Low (total f es)
 unfolding total
@@ -67,35 +67,35 @@ total_append f (x ∷ xs) ys = ap (plus (f x)) (total_append f xs ys) ∙ plus_a
 
 plus_more : (o o' q q' : Option ℕ) → o ≼ o' → q ≼ q' → plus o q ≼ plus o' q'
 unfolding plus
-plus_more none o' q q' h k a e = none_some a e
-plus_more (some m) o' none q' h k a e = none_some a e
-plus_more (some m) o' (some n) q' h k a e = rw (h m refl, k n refl, plus) e
+plus_more None o' q q' h k a e = none_some a e
+plus_more (Some m) o' None q' h k a e = none_some a e
+plus_more (Some m) o' (Some n) q' h k a e = rw (h m refl, k n refl, plus) e
 
 pub total_more : (f h : PortRef → Option ℕ) → ((e : PortRef) → f e ≼ h e) → (es : List PortRef) → total f es ≼ total h es
 unfolding total
 total_more f h le [] a e = e
 total_more f h le (x ∷ xs) a e = plus_more (f x) (h x) (total f xs) (total h xs) (le x) (total_more f h le xs) a e
 
-plus_both : (o q : Option ℕ) (a : ℕ) → plus o q ≡ some a → ((m : ℕ) × (o ≡ some m)) × ((n : ℕ) × (q ≡ some n))
+plus_both : (o q : Option ℕ) (a : ℕ) → plus o q ≡ Some a → ((m : ℕ) × (o ≡ Some m)) × ((n : ℕ) × (q ≡ Some n))
 unfolding plus
-plus_both none q a e = none_some a e
-plus_both (some m) none a e = none_some a e
-plus_both (some m) (some n) a e = ((m, refl), (n, refl))
+plus_both None q a e = none_some a e
+plus_both (Some m) None a e = none_some a e
+plus_both (Some m) (Some n) a e = ((m, refl), (n, refl))
 
 -- where there is a sum, each has a count
-pub total_each : (f : PortRef → Option ℕ) (es : List PortRef) (a : ℕ) → total f es ≡ some a → (t : PortRef) → Memᴰ t es → (m : ℕ) × (f t ≡ some m)
+pub total_each : (f : PortRef → Option ℕ) (es : List PortRef) (a : ℕ) → total f es ≡ Some a → (t : PortRef) → Memᴰ t es → (m : ℕ) × (f t ≡ Some m)
 unfolding total
 total_each f [] a e t i = absurd (Memᴰ.not-nil i)
 total_each f (x ∷ xs) a e t i = go (Memᴰ.cases_cons i) (plus_both (f x) (total f xs) a e) (total_each f xs)
   where
-    go : (t ≡ x) ⊎ Memᴰ t xs → ((m : ℕ) × (f x ≡ some m)) × ((n : ℕ) × (total f xs ≡ some n)) → ((a : ℕ) → total f xs ≡ some a → (t : PortRef) → Memᴰ t xs → (m : ℕ) × (f t ≡ some m)) → (m : ℕ) × (f t ≡ some m)
+    go : (t ≡ x) ⊎ Memᴰ t xs → ((m : ℕ) × (f x ≡ Some m)) × ((n : ℕ) × (total f xs ≡ Some n)) → ((a : ℕ) → total f xs ≡ Some a → (t : PortRef) → Memᴰ t xs → (m : ℕ) × (f t ≡ Some m)) → (m : ℕ) × (f t ≡ Some m)
     go (inl q) (h, k) ih = (h.0, ap f q ∙ h.1)
     go (inr q) (h, k) ih = ih k.0 k.1 t q
 
 -- ---- sums over wires
 
 module _ (actions counts : List ℕ) where
-  pub sum_nil : sum_of actions counts [] ≡ some 0
+  pub sum_nil : sum_of actions counts [] ≡ Some 0
   unfolding sum_of total
   sum_nil = refl
 
@@ -108,21 +108,21 @@ module _ (actions counts : List ℕ) where
   sum_append xs ys = ap (total _) (map-append _ xs ys) ∙ total_append _ (map (λ w. w.target) xs) (map (λ w. w.target) ys)
 
   -- none so far
-  pub sum_none : (v : ℕ) → v < no_count → plus (some v) (sum_of actions counts []) ≡ some v
+  pub sum_none : (v : ℕ) → v < no_count → plus (Some v) (sum_of actions counts []) ≡ Some v
   sum_none v h = rw sum_nil (plus_zero v h)
 
   -- one more wire
-  pub sum_one : (s c v : ℕ) (xs : List Wire) (w : Wire) → plus (some s) (sum_of actions counts xs) ≡ some v → c ≡ count_in actions counts w.target → c < no_count → plus (some s) (sum_of actions counts (xs ++ (w ∷ []))) ≡ some (cap (v + c))
+  pub sum_one : (s c v : ℕ) (xs : List Wire) (w : Wire) → plus (Some s) (sum_of actions counts xs) ≡ Some v → c ≡ count_in actions counts w.target → c < no_count → plus (Some s) (sum_of actions counts (xs ++ (w ∷ []))) ≡ Some (cap (v + c))
   sum_one s c v xs w e q h =
-      ap (plus (some s)) (sum_append xs (w ∷ []))
-      ∙ plus_assoc (some s) (sum_of actions counts xs) (sum_of actions counts (w ∷ []))
+      ap (plus (Some s)) (sum_append xs (w ∷ []))
+      ∙ plus_assoc (Some s) (sum_of actions counts xs) (sum_of actions counts (w ∷ []))
       ∙ rw (e, single) (unfold plus in refl)
     where
-      single : sum_of actions counts (w ∷ []) ≡ some c
-      single = unfold sum_of total plus cap in rw (← q, entry_some c h) (ap some (omega arith))
+      single : sum_of actions counts (w ∷ []) ≡ Some c
+      single = unfold sum_of total plus cap in rw (← q, entry_some c h) (ap Some (omega arith))
 
   -- passed on the way, and now
-  pub sum_on : (s v : ℕ) (xs ys : List Wire) → sum_of actions counts xs ≡ some s → plus (some s) (sum_of actions counts ys) ≡ some v → sum_of actions counts (xs ++ ys) ≡ some v
+  pub sum_on : (s v : ℕ) (xs ys : List Wire) → sum_of actions counts xs ≡ Some s → plus (Some s) (sum_of actions counts ys) ≡ Some v → sum_of actions counts (xs ++ ys) ≡ Some v
   sum_on s v xs ys e q = sum_append xs ys ∙ rw e q
 
 -- ---- a count that changes where there was none
@@ -132,7 +132,7 @@ module _ (actions counts : List ℕ) (b v : ℕ) (inside : b < length counts) (n
   unfolding count_in
   count_more e a = go (eqb (get_or actions e.node_id 0) 0) (eqb (get_or actions e.node_id 0) 3 && eqb e.port exec) (ℕ_discrete e.node_id b)
     where
-      go : (x y : Bool) → Dec (e.node_id ≡ b) → entry (cond x 1 (cond y (get_or counts e.node_id 0) 0)) ≡ some a → entry (cond x 1 (cond y (get_or (set counts b v) e.node_id 0) 0)) ≡ some a
+      go : (x y : Bool) → Dec (e.node_id ≡ b) → entry (cond x 1 (cond y (get_or counts e.node_id 0) 0)) ≡ Some a → entry (cond x 1 (cond y (get_or (set counts b v) e.node_id 0) 0)) ≡ Some a
       go true y d q = q
       go false false d q = q
       go false true (yes d) q = none_some a (sym (entry_none (get_or counts e.node_id 0) (rw d none_yet)) ∙ q)

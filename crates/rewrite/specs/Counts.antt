@@ -1,7 +1,6 @@
 -- How many unplanned targets each planned Branch leads to: the count, at most 4097, and 4098 where there is none, since a chain of targets goes
 -- round.
-use Rattle.std.specs.Prelude.{ℕ, ◌≤◌, ◌≡◌, cond, ◌&&◌, List, eqb, ltb, length, get_or}
-use Rattle.std.proofs.Math.Option.{Option, none, some}
+use Rattle.std.specs.Prelude.{ℕ, ◌≤◌, ◌≡◌, cond, ◌&&◌, List, eqb, ltb, length, get_or, Option, None, Some}
 use Rattle.ir.specs.Limits.{max_nodes}
 use Rattle.ir.specs.Ports.{exec}
 use Rattle.ir.specs.declared.PortRef.{PortRef}
@@ -15,7 +14,7 @@ no_count = 4098
 
 -- the count that a number says
 unfoldable pub entry : ℕ → Option ℕ
-entry c = cond (ltb c no_count) (some c) none
+entry c = cond (ltb c no_count) (Some c) None
 
 -- the count at a target e, by its node's action and the counts of the Branches: 1 where it is not planned; at a planned Branch's Exec the
 -- Branch's; at any other planned node's port 0

@@ -1,20 +1,20 @@
 -- Chains of wires while they are built, from the last wire down: each wire that is picked goes to the front of its source node's chain.
-use Rattle.std.specs.Prelude.{ℕ, ◌<◌, ◌≤◌, ◌≡◌, Bool, ◌&&◌, List, ◌⊎◌, eqb, ltb, length, get_or, drop}
+use Rattle.std.specs.Prelude.{ℕ, ◌<◌, ◌≤◌, ◌≡◌, Bool, ◌&&◌, List, ◌⊎◌, eqb, length, get_or, drop}
 use Rattle.ir.specs.Limits.{max_nodes, max_wires}
+use Rattle.ir.specs.declared.PortRef.{PortRef}
 use Rattle.ir.specs.declared.Wire.{Wire}
 use Rattle.records.specs.Access.{no_wire}
 use Rattle.model.specs.Maps.{keep}
-use Rattle.model.specs.Inputs.{is_port}
 use Rattle.wire_index.specs.Chains.{Chain}
-use Rattle.rewrite.specs.Counts.{count_in}
 use Rattle.rewrite.specs.Taken.{Later}
 
--- the wires that planned Branch b takes, and those of them that lead to some unplanned target
-unfoldable pub takes : List ℕ → List ℕ → ℕ → Wire → Bool
-takes actions details b w = eqb (get_or actions b 0) 3 && is_port w.source b (get_or details b 0)
+-- the wires from node b that pass a test
+abbrev pub leaves : (Wire → Bool) → ℕ → Wire → Bool
+leaves test b w = eqb w.source.node_id b && test w
 
-unfoldable pub lives : List ℕ → List ℕ → List ℕ → ℕ → Wire → Bool
-lives actions details counts b w = takes actions details b w && ltb 0 (count_in actions counts w.target)
+-- whether planned Branch e.node_id takes the wires from port e
+abbrev pub takes_from : List ℕ → List ℕ → PortRef → Bool
+takes_from actions details e = eqb (get_or actions e.node_id 0) 3 && eqb e.port (get_or details e.node_id 0)
 
 -- chains of the wires from i on that are picked for each node
 pub record Linked (ws : List Wire) (picks : ℕ → Wire → Bool) (first next : List ℕ) (i : ℕ) : Type 0 where

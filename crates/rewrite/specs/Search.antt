@@ -1,8 +1,7 @@
 -- The search that finds the Branches' counts: depth first along the taken wires, with the Branches that wait for a count on a stack. A Branch is
 -- unseen, then without a count while it waits, and then has its count. One that is found without a count closes a cycle, and all that wait lead
 -- into it.
-use Rattle.std.specs.Prelude.{ℕ, suc, ◌+◌, ◌-◌, ◌*◌, ◌<◌, ◌≤◌, ◌≡◌, true, false, cond, ◌⊎◌, eqb, length, get_or}
-use Rattle.std.proofs.Math.Option.{Option, some}
+use Rattle.std.specs.Prelude.{ℕ, suc, ◌+◌, ◌-◌, ◌*◌, ◌<◌, ◌≤◌, ◌≡◌, true, false, cond, ◌⊎◌, eqb, length, get_or, Option, Some}
 use mathlib.Core.List.{List, [], ◌∷◌, ◌++◌, map, Memᴰ}
 use Rattle.ir.specs.Limits.{max_nodes}
 use Rattle.ir.specs.Ports.{exec}
@@ -17,6 +16,7 @@ use Rattle.state.specs.Planned.{targets_in, shape_of}
 use Rattle.rewrite.specs.Counts.{no_count, entry, count_in}
 use Rattle.rewrite.specs.Taken.{taken_wires, Later}
 use Rattle.rewrite.specs.declared.counts.Reached.{Reached}
+use Rattle.rewrite.specs.declared.counts.Search.{Search}
 
 -- what a Branch has before the search comes to it
 abbrev pub unseen : ℕ
@@ -36,7 +36,7 @@ pub record Walked (ws : List Wire) (actions counts next : List ℕ) (xs : List W
   pub rest : List Wire
   pub split : xs ≡ passed ++ rest
   pub chain : Chain ws next r.code rest
-  pub sums : plus (some sum) (sum_of actions counts passed) ≡ some r.sum
+  pub sums : plus (Some sum) (sum_of actions counts passed) ≡ Some r.sum
 
 -- the same of any chain from a code on: it stops at a wire without a count or at the end
 pub record Walks (ws : List Wire) (actions counts next : List ℕ) (code sum : ℕ) (r : Reached) : Type 0 where
@@ -62,7 +62,7 @@ module _ (ws : List Wire) (actions details : List ℕ) where
     pub rest : List Wire
     pub split : taken_wires ws details b ≡ passed ++ rest
     pub chain : Chain ws next (get_or first b 0) rest
-    pub sum : sum_of actions counts passed ≡ some (get_or sums b 0)
+    pub sum : sum_of actions counts passed ≡ Some (get_or sums b 0)
 
   -- the Branch on top of the stack waits for c
   abbrev pub Above : ℕ → List ℕ → Type 0
@@ -97,7 +97,7 @@ pub record Searching (ws : List Wire) (actions details first next counts sums st
   pub listed : (b : ℕ) → get_or counts b 0 ≤ unseen
   pub ahead : (b : ℕ) → get_or actions b 0 ≡ 3 → get_or counts b 0 ≡ unseen → Chain ws next (get_or first b 0) (taken_wires ws details b)
   pub level : ℕ
-  pub sound : (b : ℕ) → get_or actions b 0 ≡ 3 → get_or counts b 0 < no_count → rounds (shape_of ws actions details) level b ≡ some (get_or counts b 0)
+  pub sound : (b : ℕ) → get_or actions b 0 ≡ 3 → get_or counts b 0 < no_count → rounds (shape_of ws actions details) level b ≡ Some (get_or counts b 0)
   pub path : List ℕ
   pub stacked : Stacked stack depth path
   pub distinct : Distinct path
@@ -105,19 +105,19 @@ pub record Searching (ws : List Wire) (actions details first next counts sums st
   pub waiting : Waiting ws actions details path
   pub stuck : (b : ℕ) → get_or actions b 0 ≡ 3 → get_or counts b 0 ≡ no_count → (member b path ≡ true) ⊎ Blocked ws actions details counts path b
 
--- the search has some plan's details
-pub record Sought (ws : List Wire) (actions first next counts sums stack : List ℕ) (depth : ℕ) : Type 0 where
+-- the search stands so, of some plan's details
+pub record Sought (ws : List Wire) (actions next : List ℕ) (s : Search) : Type 0 where
   pub details : List ℕ
-  pub searching : Searching ws actions details first next counts sums stack depth
+  pub searching : Searching ws actions details s.first next s.counts s.sums s.stack s.depth
 
 -- one step of the search, of whatever plan: it goes on, and comes nearer to its end
-pub record Stepped (ws : List Wire) (actions next first counts sums stack : List ℕ) (depth : ℕ) (first' counts' sums' stack' : List ℕ) (depth' : ℕ) : Type 0 where
-  pub goes : (details : List ℕ) → Searching ws actions details first next counts sums stack depth → Searching ws actions details first' next counts' sums' stack' depth'
-  pub seen : (b : ℕ) → get_or counts b 0 ≤ no_count → get_or counts' b 0 ≤ no_count
-  pub less : 2 * unseen_in counts' + depth' < 2 * unseen_in counts + depth
+pub record Stepped (ws : List Wire) (actions next : List ℕ) (s t : Search) : Type 0 where
+  pub goes : (details : List ℕ) → Searching ws actions details s.first next s.counts s.sums s.stack s.depth → Searching ws actions details t.first next t.counts t.sums t.stack t.depth
+  pub seen : (b : ℕ) → get_or s.counts b 0 ≤ no_count → get_or t.counts b 0 ≤ no_count
+  pub less : 2 * unseen_in t.counts + t.depth < 2 * unseen_in s.counts + s.depth
 
--- a search between two states with an empty stack, of whatever plan
-pub record Visited (ws : List Wire) (actions next first counts sums stack first' counts' sums' stack' : List ℕ) : Type 0 where
-  pub sought : Sought ws actions first' next counts' sums' stack' 0
-  pub goes : (details : List ℕ) → Searching ws actions details first next counts sums stack 0 → Searching ws actions details first' next counts' sums' stack' 0
-  pub seen : (b : ℕ) → get_or counts b 0 ≤ no_count → get_or counts' b 0 ≤ no_count
+-- a search between two states, of whatever plan
+pub record Visited (ws : List Wire) (actions next : List ℕ) (s t : Search) : Type 0 where
+  pub sought : Sought ws actions next t
+  pub goes : (details : List ℕ) → Searching ws actions details s.first next s.counts s.sums s.stack s.depth → Searching ws actions details t.first next t.counts t.sums t.stack t.depth
+  pub seen : (b : ℕ) → get_or s.counts b 0 ≤ no_count → get_or t.counts b 0 ≤ no_count

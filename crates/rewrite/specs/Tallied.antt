@@ -1,6 +1,5 @@
--- What each case of `Rewriting` says of the wires.
-use Rattle.std.specs.Prelude.{ℕ, ◌≤◌, ◌≡◌, cond, List, [], ◌∷◌, ◌++◌, eqb, length, get_or}
-use Rattle.std.proofs.Math.Option.{Option, none, some}
+-- What the result of `rewrite` says of the wires.
+use Rattle.std.specs.Prelude.{ℕ, ◌≤◌, ◌≡◌, cond, List, [], ◌∷◌, ◌++◌, eqb, length, get_or, Option, None, Some, Result, Ok, Err}
 use Rattle.ir.specs.Ports.{output}
 use Rattle.ir.specs.declared.PortRef.{PortRef}
 use Rattle.ir.specs.declared.Wire.{Wire}
@@ -16,23 +15,22 @@ use Rattle.rewrite.specs.Linked.{Within}
 use Rattle.rewrite.specs.Sources.{Sources, Traced}
 use Rattle.rewrite.specs.declared.Origin.{Origin}
 use Rattle.rewrite.specs.declared.Origin.TheVariants.{Cycles, Drops, From}
-use Rattle.rewrite.specs.declared.Rewriting.{Rewriting}
-use Rattle.rewrite.specs.declared.Rewriting.TheVariants.{Endless, Wires}
+use Rattle.rewrite.specs.declared.Endless.{Endless}
 
 -- question 9: some wire's rewriting does not end, and the first such has this number
 pub record Stuck (p : Map PlanAction) (n : ℕ) (ws : List Wire) (index : ℕ) : Type 0 where
-  pub endless : rewrite_wires p n ws ≡ none
+  pub endless : rewrite_wires p n ws ≡ None
   pub first : index ≡ endless_index p n ws
 
 -- question 10: how many wires there are at the end, or 4097 where there are more than 4096
 pub record Counted (p : Map PlanAction) (n : ℕ) (ws : List Wire) (count : ℕ) : Type 0 where
   pub rewritten : List Wire
-  pub ends : rewrite_wires p n ws ≡ some rewritten
+  pub ends : rewrite_wires p n ws ≡ Some rewritten
   pub many : count ≡ cap (length rewritten)
 
-abbrev pub Tallied : Map PlanAction → ℕ → List Wire → Rewriting → Type 0
-Tallied p n ws (Endless index) = Stuck p n ws index
-Tallied p n ws (Wires count) = Counted p n ws count
+abbrev pub Tallied : Map PlanAction → ℕ → List Wire → Result ℕ Endless → Type 0
+Tallied p n ws (Err e) = Stuck p n ws e.index
+Tallied p n ws (Ok count) = Counted p n ws count
 
 -- ---- neither a Select nor a Branch is planned
 
@@ -51,8 +49,8 @@ kept_wires actions (w ∷ ws) = kept_wire actions w ++ kept_wires actions ws
 -- ---- one wire
 
 unfoldable pub size_of : Option (List Wire) → Option ℕ
-size_of none = none
-size_of (some ws) = some (cap (length ws))
+size_of None = None
+size_of (Some ws) = Some (cap (length ws))
 
 -- what the count at a wire's target comes to, by where its source comes to
 abbrev pub by_origin : Origin → ℕ → ℕ

@@ -1,121 +1,38 @@
-// Chains of the wires that the planned Branches take, by source node and in wire order: a code is 0 at the end, and else a wire's number and one.
-ghost use Rattle.std.specs.Prelude.{◌≡◌, ◌&&◌, ◌+◌, ◌<◌, eqb, length, get_or, set, replicate};
-ghost use Rattle.ir.specs.Limits.{max_nodes, max_wires};
+// Chains of the wires that the planned Branches take, by source node and in wire order.
+ghost use Rattle.std.specs.Prelude.{◌≡◌, Bool, ◌&&◌, ◌<◌, eqb, get_or};
+ghost use Rattle.ir.specs.Limits.{max_nodes};
+ghost use Rattle.ir.specs.declared.Wire.{Wire};
 ghost use Rattle.records.specs.Access.{wires_of};
-ghost use Rattle.rewrite.specs.Linked.{takes, lives, Linked, Within};
+ghost use Rattle.rewrite.specs.Taken.{Later};
+ghost use Rattle.rewrite.specs.Linked.{Linked, leaves, takes_from};
 
-use crate::counts::count_at;
-use crate::widen;
-use encoding::wires as wire_records;
-use ir::limit;
-use records::access;
-use state::TRUNCATE;
-
-// No node has a chain.
-pub fn clear(first: &mut [u16; limit::NODES])
-    ensures { first.new ≡ replicate max_nodes 0 }
-{
-    *first = [0u16; limit::NODES];
-}
-
-pub fn clear_next(next: &mut [u16; limit::WIRES])
-    ensures { next.new ≡ replicate max_wires 0 }
-{
-    *next = [0u16; limit::WIRES];
-}
-
-// Puts a wire at the front of a node's chain.
-fn link(first: &mut [u16; limit::NODES], next: &mut [u16; limit::WIRES], node: usize, wire: usize)
-    requires { (node < max_nodes) × (wire < max_wires) }
-    ensures { (first.new ≡ set first.old node (wire + 1)) × (next.new ≡ set next.old wire (get_or first.old node 0)) }
-{
-    next[wire] = first[node];
-    first[node] = (wire + 1) as u16;
-}
+use ir::{PortRef, Wire, limit};
+use records::access::Wires;
+use state::{Plan, TRUNCATE};
+use wire_index::Chains;
 
 // Whether a planned Branch takes the wires from a port.
-fn is_taken(
-    actions: &[u8; limit::NODES],
-    details: &[u16; limit::NODES],
-    node: usize,
-    port: u8,
-) -> bool
-    requires { node < max_nodes }
-    ensures { result ≡ (eqb (get_or actions.now node 0) 3 && eqb port (get_or details.now node 0)) }
+pub fn is_taken(plan: &Plan, source: PortRef) -> bool
+    requires { source.node_id < max_nodes }
+    ensures { result ≡ takes_from plan.now.actions plan.now.details source }
 {
-    (actions[node] == TRUNCATE) & (widen(port) == details[node])
+    (plan.actions[source.node_id] == TRUNCATE)
+        & (u16::from(source.port) == plan.details[source.node_id])
 }
 
-fn link_taken(
-    wires: &[u8],
-    actions: &[u8; limit::NODES],
-    details: &[u16; limit::NODES],
-    first: &mut [u16; limit::NODES],
-    next: &mut [u16; limit::WIRES],
-    i: usize,
-)
-    requires { Within (wires_of wires.now) × (i < length (wires_of wires.now)) × Linked (wires_of wires.now) (takes actions.now details.now) first.old next.old (i + 1) }
-    ensures { Linked (wires_of wires.now) (takes actions.now details.now) first.new next.new i }
+// Links the wires that pass a test, the last wire first: each goes to the front of its source node's chain.
+pub fn link_all<F: Fn(Wire) -> bool>(wires: &Wires, test: F, chains: &mut Chains<{ limit::NODES }>)
+    requires callable { (w : Wire) → w.source.node_id < max_nodes → w.target.node_id < max_nodes → F.pre test w }
+    requires later { Later (wires_of wires.now.records.now) chains.old.next }
+    ensures { (picks : Wire → Bool) → ((w : Wire) (r : Bool) → F.post test w r → r ≡ picks w) → Linked (wires_of wires.now.records.now) (leaves picks) chains.new.first chains.new.next 0 }
 {
-    let source = access::wire(wires, i).source;
-    if is_taken(actions, details, source.node_id, source.port) {
-        link(first, next, source.node_id, i);
-    }
-}
-
-// The chains of all taken wires.
-pub fn link_all_taken(
-    wires: &[u8],
-    actions: &[u8; limit::NODES],
-    details: &[u16; limit::NODES],
-    first: &mut [u16; limit::NODES],
-    next: &mut [u16; limit::WIRES],
-)
-    requires { Within (wires_of wires.now) × Linked (wires_of wires.now) (takes actions.now details.now) first.old next.old (length (wires_of wires.now)) }
-    ensures { Linked (wires_of wires.now) (takes actions.now details.now) first.new next.new 0 }
-{
-    let mut i = wires.len() / wire_records::SIZE;
-    while 0 < i {
-        i = i - 1;
-        link_taken(wires, actions, details, first, next, i);
-    }
-}
-
-fn link_live(
-    wires: &[u8],
-    actions: &[u8; limit::NODES],
-    details: &[u16; limit::NODES],
-    counts: &[u16; limit::NODES],
-    first: &mut [u16; limit::NODES],
-    next: &mut [u16; limit::WIRES],
-    i: usize,
-)
-    requires { Within (wires_of wires.now) × (i < length (wires_of wires.now)) × Linked (wires_of wires.now) (lives actions.now details.now counts.now) first.old next.old (i + 1) }
-    ensures { Linked (wires_of wires.now) (lives actions.now details.now counts.now) first.new next.new i }
-{
-    let wire = access::wire(wires, i);
-    if is_taken(actions, details, wire.source.node_id, wire.source.port) {
-        if 0 < count_at(actions, counts, wire.target.node_id, wire.target.port) {
-            link(first, next, wire.source.node_id, i);
+    chains.first = [0u16; limit::NODES];
+    for i in (0..wires.len()).rev() {
+        let wire = wires.get(i);
+        if test(wire) {
+            let node = wire.source.node_id;
+            chains.next[i] = chains.first[node];
+            chains.first[node] = (i + 1) as u16;
         }
-    }
-}
-
-// The chains of the taken wires that lead to some unplanned target.
-pub fn link_all_live(
-    wires: &[u8],
-    actions: &[u8; limit::NODES],
-    details: &[u16; limit::NODES],
-    counts: &[u16; limit::NODES],
-    first: &mut [u16; limit::NODES],
-    next: &mut [u16; limit::WIRES],
-)
-    requires { Within (wires_of wires.now) × Linked (wires_of wires.now) (lives actions.now details.now counts.now) first.old next.old (length (wires_of wires.now)) }
-    ensures { Linked (wires_of wires.now) (lives actions.now details.now counts.now) first.new next.new 0 }
-{
-    let mut i = wires.len() / wire_records::SIZE;
-    while 0 < i {
-        i = i - 1;
-        link_live(wires, actions, details, counts, first, next, i);
     }
 }

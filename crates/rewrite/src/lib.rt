@@ -4,7 +4,7 @@
 
 ghost use Rattle.std.specs.Prelude.{◌≡◌, true, false, ℕ, ◌<◌, ◌≤◌, get_or};
 ghost use Rattle.ir.specs.Limits.{max_nodes};
-ghost use Rattle.records.specs.Access.{wires_of, Bounded};
+ghost use Rattle.records.specs.Access.{wires_of};
 ghost use Rattle.state.specs.Planned.{shape_of, Shaped};
 ghost use Rattle.rewrite.specs.Rewritable.{HasAction, Rewritable};
 ghost use Rattle.rewrite.specs.Tallied.{Tallied};
@@ -15,6 +15,12 @@ pub mod sources;
 pub mod tally;
 
 use ir::{PortRef, limit};
+use records::access::Wires;
+use state::Plan;
+use wire_index::Chains;
+
+// Where counts stop.
+pub const COUNT_LIMIT: u16 = 4097;
 
 // What a Branch that leads into a cycle has for a count.
 pub const NO_COUNT: u16 = 4098;
@@ -27,24 +33,29 @@ pub enum Origin {
     From(PortRef),
 }
 
-// What the rewriting of all wires comes to: the number of the first wire whose rewriting does not end, or how many wires there are at the end,
-// 4097 for more than 4096.
+// The number of the first wire whose rewriting does not end.
 #[derive(Clone, Copy)]
-pub enum Rewriting {
-    Endless { index: usize },
-    Wires { count: usize },
+pub struct Endless {
+    pub index: usize,
 }
 
-fn wide(x: u16) -> usize
-    ensures { (result ≡ x) × (result < 65536) }
-{
-    x as usize
+// What an emission of the rewritten wires needs: for each planned Select the number of the wire that its source comes to, for each planned Branch
+// the count of its unplanned targets, and the chains of the taken wires that lead to one.
+#[derive(Drop)]
+pub struct Rewrites {
+    pub sources: [u16; limit::NODES],
+    pub counts: [u16; limit::NODES],
+    pub chains: Chains<{ limit::NODES }>,
 }
 
-fn widen(x: u8) -> u16
-    ensures { result ≡ x }
-{
-    x as u16
+impl Rewrites {
+    pub fn new() -> Self {
+        Rewrites {
+            sources: [0u16; limit::NODES],
+            counts: [0u16; limit::NODES],
+            chains: Chains::new(),
+        }
+    }
 }
 
 // Whether this is planned of some node.
@@ -53,31 +64,17 @@ pub fn has_action(actions: &[u8; limit::NODES], nodes: usize, action: u8) -> boo
     ensures nowhere { result ≡ false → (m : ℕ) → m < nodes → get_or actions.now m 0 ≡ action → ⊥ }
     ensures somewhere { result ≡ true → HasAction actions.now nodes action }
 {
-    let mut found = false;
-    let mut node: usize = 0;
-    while node < nodes {
-        found = found | (actions[node] == action);
-        node = node + 1;
-    }
-    found
+    actions[..nodes]
+        .iter()
+        .fold(false, |found, a| found | (*a == action))
 }
 
-// Questions 9 and 10. The arrays then hold what an emission of the rewritten wires needs: for each planned Select the wire that its source comes
-// to, for each planned Branch the count of its unplanned targets, and the chain of the taken wires that lead to one.
-pub fn rewrite(
-    wires: &[u8],
-    nodes: usize,
-    actions: &[u8; limit::NODES],
-    details: &[u16; limit::NODES],
-    sources: &mut [u16; limit::NODES],
-    counts: &mut [u16; limit::NODES],
-    first: &mut [u16; limit::NODES],
-    next: &mut [u16; limit::WIRES],
-) -> Rewriting
-    requires { Bounded (wires_of wires.now) nodes × Shaped (wires_of wires.now) nodes actions.now details.now }
-    ensures { Tallied (shape_of (wires_of wires.now) actions.now details.now) nodes (wires_of wires.now) result × Rewritable (wires_of wires.now) nodes actions.now details.now sources.new counts.new first.new next.new }
+// Questions 9 and 10: how many wires there are at the end, 4097 for more than 4096.
+pub fn rewrite(wires: &Wires, plan: &Plan, rewrites: &mut Rewrites) -> Result<usize, Endless>
+    requires { Shaped (wires_of wires.now.records.now) wires.now.nodes plan.now.actions plan.now.details }
+    ensures { Tallied (shape_of (wires_of wires.now.records.now) plan.now.actions plan.now.details) wires.now.nodes (wires_of wires.now.records.now) result × Rewritable (wires_of wires.now.records.now) wires.now.nodes plan.now.actions plan.now.details rewrites.new.sources rewrites.new.counts rewrites.new.chains.first rewrites.new.chains.next }
 {
-    sources::fill(wires, nodes, actions, details, sources);
-    counts::fill(wires, nodes, actions, details, counts, first, next);
-    tally::scan(wires, nodes, actions, sources, counts)
+    sources::fill(wires, plan, &mut rewrites.sources);
+    counts::fill(wires, plan, &mut rewrites.counts, &mut rewrites.chains);
+    tally::scan(wires, plan, rewrites)
 }

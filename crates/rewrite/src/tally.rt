@@ -1,20 +1,13 @@
 // Questions 9 and 10: whether each wire's rewriting ends, and how many wires there are at the end.
-ghost use Rattle.std.specs.Prelude.{◌≡◌, List, cond, ℕ, ◌<◌, ◌≤◌, eqb, length, get_or};
-ghost use Rattle.ir.specs.Limits.{max_nodes};
-ghost use Rattle.records.specs.Access.{wires_of, no_wire};
-ghost use Rattle.rewrite.specs.Linked.{Within};
-ghost use Rattle.model.specs.TargetCounts.{cap};
+ghost use Rattle.std.specs.Prelude.{◌≡◌, List, ℕ, ◌<◌, length};
+ghost use Rattle.records.specs.Access.{wires_of};
 ghost use Rattle.state.specs.Planned.{shape_of};
 ghost use Rattle.rewrite.specs.Tallied.{Tallied, kept_wires, by_origin, Scannable, Filled, Weighs};
 
-use crate::{NO_COUNT, Origin, Rewriting, counts, sources as origins, wide};
-use encoding::wires as wire_records;
+use crate::{COUNT_LIMIT, Endless, NO_COUNT, Origin, Rewrites, counts, sources};
 use ir::limit;
-use records::access;
-use state::{BECOME_LITERAL, KEPT};
-
-// Where counts stop.
-const COUNT_LIMIT: usize = 4097;
+use records::access::Wires;
+use state::{BECOME_LITERAL, KEPT, Plan};
 
 fn by_origin(origin: Origin, count: u16) -> u16
     ensures { result ≡ by_origin origin count }
@@ -27,108 +20,54 @@ fn by_origin(origin: Origin, count: u16) -> u16
 }
 
 // How many wires a wire becomes. Once it leads to no unplanned target, its source plays no part.
-fn weigh(
-    wires: &[u8],
-    actions: &[u8; limit::NODES],
-    sources: &[u16; limit::NODES],
-    counts: &[u16; limit::NODES],
-    i: usize,
-) -> u16
-    requires { Scannable (wires_of wires.now) actions.now sources.now counts.now × (i < length (wires_of wires.now)) }
-    ensures { Weighs (wires_of wires.now) actions.now sources.now counts.now i result }
+fn weigh(wires: &Wires, plan: &Plan, rewrites: &Rewrites, i: usize) -> u16
+    requires { Scannable (wires_of wires.now.records.now) plan.now.actions rewrites.now.sources rewrites.now.counts × (i < length (wires_of wires.now.records.now)) }
+    ensures { Weighs (wires_of wires.now.records.now) plan.now.actions rewrites.now.sources rewrites.now.counts i result }
 {
-    let wire = access::wire(wires, i);
-    let count = counts::count_at(actions, counts, wire.target.node_id, wire.target.port);
+    let wire = wires.get(i);
+    let count = counts::count_at(&plan.actions, &rewrites.counts, wire.target);
     if (count == 0) | (count == NO_COUNT) {
         return count;
     }
     by_origin(
-        origins::origin(
-            wires,
-            actions,
-            sources,
-            wire.source.node_id,
-            wire.source.port,
-        ),
+        sources::origin(wires, &plan.actions, &rewrites.sources, wire.source),
         count,
     )
 }
 
-// 4097 for more than 4096.
-fn capped(count: usize) -> usize
-    ensures { result ≡ cap count }
+fn weigh_all(wires: &Wires, plan: &Plan, rewrites: &Rewrites) -> Result<usize, Endless>
+    requires { Scannable (wires_of wires.now.records.now) plan.now.actions rewrites.now.sources rewrites.now.counts }
+    ensures { (n : ℕ) (details : List ℕ) → Filled (wires_of wires.now.records.now) n plan.now.actions details rewrites.now.sources rewrites.now.counts → Tallied (shape_of (wires_of wires.now.records.now) plan.now.actions details) n (wires_of wires.now.records.now) result }
 {
-    if count < COUNT_LIMIT {
-        count
-    } else {
-        COUNT_LIMIT
-    }
-}
-
-fn weigh_all(
-    wires: &[u8],
-    actions: &[u8; limit::NODES],
-    sources: &[u16; limit::NODES],
-    counts: &[u16; limit::NODES],
-) -> Rewriting
-    requires { Scannable (wires_of wires.now) actions.now sources.now counts.now }
-    ensures { (n : ℕ) (details : List ℕ) → Filled (wires_of wires.now) n actions.now details sources.now counts.now → Tallied (shape_of (wires_of wires.now) actions.now details) n (wires_of wires.now) result }
-{
-    let wire_count = wires.len() / wire_records::SIZE;
     let mut count: usize = 0;
-    let mut i: usize = 0;
-    while i < wire_count {
-        let weight = weigh(wires, actions, sources, counts, i);
+    for i in 0..wires.len() {
+        let weight = weigh(wires, plan, rewrites, i);
         if weight == NO_COUNT {
-            return Rewriting::Endless { index: i };
+            return Err(Endless { index: i });
         }
-        count = count + wide(weight);
-        i = i + 1;
+        count += usize::from(weight);
     }
-    Rewriting::Wires {
-        count: capped(count),
-    }
-}
-
-// 1 for a wire into a node that stays, and else 0.
-fn kept(wires: &[u8], actions: &[u8; limit::NODES], i: usize) -> usize
-    requires { Within (wires_of wires.now) × (i < length (wires_of wires.now)) }
-    ensures { result ≡ cond (eqb (get_or actions.now (get_or (wires_of wires.now) i no_wire).target.node_id 0) 0) 1 0 }
-{
-    let target = access::wire(wires, i).target.node_id;
-    if actions[target] == KEPT { 1 } else { 0 }
+    Ok(count.min(usize::from(COUNT_LIMIT)))
 }
 
 // How many wires enter nodes that stay.
-fn count_kept(wires: &[u8], actions: &[u8; limit::NODES]) -> usize
-    requires { Within (wires_of wires.now) }
-    ensures { result ≡ length (kept_wires actions.now (wires_of wires.now)) }
+fn count_kept(wires: &Wires, actions: &[u8; limit::NODES]) -> usize
+    ensures { result ≡ length (kept_wires actions.now (wires_of wires.now.records.now)) }
 {
-    let wire_count = wires.len() / wire_records::SIZE;
     let mut count: usize = 0;
-    let mut i: usize = 0;
-    while i < wire_count {
-        count = count + kept(wires, actions, i);
-        i = i + 1;
+    for i in 0..wires.len() {
+        count += usize::from(actions[wires.get(i).target.node_id] == KEPT);
     }
     count
 }
 
 // Wires are weighed only where a Select or a Branch is planned: else each stays, or goes with its target.
-pub fn scan(
-    wires: &[u8],
-    nodes: usize,
-    actions: &[u8; limit::NODES],
-    sources: &[u16; limit::NODES],
-    counts: &[u16; limit::NODES],
-) -> Rewriting
-    requires { Scannable (wires_of wires.now) actions.now sources.now counts.now × (nodes ≤ max_nodes) }
-    ensures { (details : List ℕ) → Filled (wires_of wires.now) nodes actions.now details sources.now counts.now → Tallied (shape_of (wires_of wires.now) actions.now details) nodes (wires_of wires.now) result }
+pub fn scan(wires: &Wires, plan: &Plan, rewrites: &Rewrites) -> Result<usize, Endless>
+    requires { Scannable (wires_of wires.now.records.now) plan.now.actions rewrites.now.sources rewrites.now.counts }
+    ensures { (details : List ℕ) → Filled (wires_of wires.now.records.now) wires.now.nodes plan.now.actions details rewrites.now.sources rewrites.now.counts → Tallied (shape_of (wires_of wires.now.records.now) plan.now.actions details) wires.now.nodes (wires_of wires.now.records.now) result }
 {
-    if state::any_above(actions, nodes, BECOME_LITERAL) {
-        return weigh_all(wires, actions, sources, counts);
+    if state::any_above(&plan.actions, wires.nodes, BECOME_LITERAL) {
+        return weigh_all(wires, plan, rewrites);
     }
-    Rewriting::Wires {
-        count: count_kept(wires, actions),
-    }
+    Ok(count_kept(wires, &plan.actions))
 }

@@ -1,7 +1,7 @@
 -- Rewritten wires go from a port of a node to another, as those of the graph do.
+use Rattle.std.specs.Prelude.{Option, None, Some}
 use mathlib.Core.Path.{◌≡◌, refl, ◌∙◌}
 use mathlib.Core.Bool.{Bool, true, false, cond}
-use mathlib.Core.Option.{Option, none, some}
 use mathlib.Core.List.{List, [], ◌∷◌}
 use Prim.Native.Nat.{ℕ, zero, suc, ◌<◌, ◌≤◌}
 use native.Mathlib.Omega.{arith}
@@ -47,19 +47,19 @@ module _ (n : ℕ) where
 
   -- a plan's sources and targets are named
   abbrev NamedPlan : Option PlanAction → Type 0
-  NamedPlan none = Unit {0}
-  NamedPlan (some (BecomeLiteral v)) = Unit {0}
-  NamedPlan (some (ShortCircuit s)) = NamedRef s
-  NamedPlan (some (Truncate ts)) = All NamedRef ts
+  NamedPlan None = Unit {0}
+  NamedPlan (Some (BecomeLiteral v)) = Unit {0}
+  NamedPlan (Some (ShortCircuit s)) = NamedRef s
+  NamedPlan (Some (Truncate ts)) = All NamedRef ts
 
   arrive_named : (enter : List PortRef → Option (List PortRef)) → ((ts : List PortRef) → All NamedRef ts → Gives NamedRef (enter ts)) → (e : PortRef) → NamedRef e → (o : Option PlanAction) → NamedPlan o → Gives NamedRef (arrive enter o e)
   unfolding arrive
-  arrive_named enter h e k none q = (k, tt)
-  arrive_named enter h e k (some (BecomeLiteral v)) q = tt
-  arrive_named enter h e k (some (ShortCircuit s)) q = tt
-  arrive_named enter h e k (some (Truncate ts)) q = go (eqb e.port exec)
+  arrive_named enter h e k None q = (k, tt)
+  arrive_named enter h e k (Some (BecomeLiteral v)) q = tt
+  arrive_named enter h e k (Some (ShortCircuit s)) q = tt
+  arrive_named enter h e k (Some (Truncate ts)) q = go (eqb e.port exec)
     where
-      go : (b : Bool) → Gives NamedRef (cond b (enter ts) (some []))
+      go : (b : Bool) → Gives NamedRef (cond b (enter ts) (Some []))
       go true = h ts q
       go false = tt
 
@@ -70,18 +70,18 @@ module _ (n : ℕ) where
 
   leave_named : (on : PortRef → Source) → ((s : PortRef) → NamedRef s → NamedSource (on s)) → (e : PortRef) → NamedRef e → (o : Option PlanAction) → NamedPlan o → NamedSource (leave on o e)
   unfolding leave
-  leave_named on h e k none q = k
-  leave_named on h e k (some (BecomeLiteral v)) q = record { node = k.node; port = omega arith }
-  leave_named on h e k (some (ShortCircuit s)) q = h s q
-  leave_named on h e k (some (Truncate ts)) q = tt
+  leave_named on h e k None q = k
+  leave_named on h e k (Some (BecomeLiteral v)) q = record { node = k.node; port = omega arith }
+  leave_named on h e k (Some (ShortCircuit s)) q = h s q
+  leave_named on h e k (Some (Truncate ts)) q = tt
 
   joined_named : (o : Option (List PortRef)) (s : Source) → Gives NamedRef o → NamedSource s → Gives (Named n) (joined o s)
   unfolding joined
-  joined_named none s h k = tt
-  joined_named (some []) s h k = tt
-  joined_named (some (t ∷ ts)) cycles h k = tt
-  joined_named (some (t ∷ ts)) drops h k = tt
-  joined_named (some (t ∷ ts)) (from e) h k =
+  joined_named None s h k = tt
+  joined_named (Some []) s h k = tt
+  joined_named (Some (t ∷ ts)) cycles h k = tt
+  joined_named (Some (t ∷ ts)) drops h k = tt
+  joined_named (Some (t ∷ ts)) (from e) h k =
       all_map NamedRef (Named n) (λ u. record { source = e; target = u })
       (λ u f. record { source = k.node; target = f.node; source_port = k.port; target_port = f.port })
       (t ∷ ts) h
@@ -97,11 +97,11 @@ module _ (n : ℕ) where
     follow_named zero e h = leave_named _ (λ s a. tt) e h (p e.node_id) (plan e.node_id)
     follow_named (suc k) e h = leave_named _ (λ s a. follow_named k s a) e h (p e.node_id) (plan e.node_id)
 
-    gives_all : (o : Option (List Wire)) (xs : List Wire) → Gives (Named n) o → o ≡ some xs → All (Named n) xs
-    gives_all none xs h e = none_some xs e
-    gives_all (some ys) xs h e = let q : ys ≡ xs = cc in rw q at h
+    gives_all : (o : Option (List Wire)) (xs : List Wire) → Gives (Named n) o → o ≡ Some xs → All (Named n) xs
+    gives_all None xs h e = none_some xs e
+    gives_all (Some ys) xs h e = let q : ys ≡ xs = cc in rw q at h
 
-    rewritten_named : (k : ℕ) (ws out : List Wire) → All (Named n) ws → rewrite_wires p k ws ≡ some out → All (Named n) out
+    rewritten_named : (k : ℕ) (ws out : List Wire) → All (Named n) ws → rewrite_wires p k ws ≡ Some out → All (Named n) out
     unfolding rewrite_wires rewrite_wire
     rewritten_named k ws out a e =
         gives_all _ out
@@ -131,7 +131,7 @@ module _ (n : ℕ) where
         go a e l (no p) (no q) (yes r) = let h = bounded.named (get_or details m 0) (shaped.chosen m (e ∙ r)) in rw r (record { node = h.source; port = h.source_port })
         go a e l (no p) (no q) (no r) = let z : a ≡ 3 = omega arith in rw z (targets_named m (get_or details m 0))
 
-    pub rewritten_bounded : (out : List Wire) → rewrite_wires (shape_of ws actions details) n ws ≡ some out → length out ≤ max_wires → Bounded out n
+    pub rewritten_bounded : (out : List Wire) → rewrite_wires (shape_of ws actions details) n ws ≡ Some out → length out ≤ max_wires → Bounded out n
     rewritten_bounded out e few =
         record {
           few_nodes = bounded.few_nodes;

@@ -4,7 +4,6 @@ use Prim.Native.Nat.{ℕ, zero, suc, ◌+◌, ◌-◌, ◌*◌, ◌/◌, ◌≤�
 use native.Mathlib.Nat.{le_trans, le_of_eq, lt_of_lt_of_le, lt_of_le_of_lt, lt_of_not-le, not-le_of_lt, lt_irrefl, mul-pos, mul-le-mul, mul-le-mul_left, mul-le-mul_right, le-div_iff_mul-le, div-lt_iff_lt-mul, div-div-eq-div-mul, div-mul-le_self, lt-div-mul-add, lt_of_mul-lt-mul_right}
 use native.Mathlib.Decide.{dec_le}
 use native.Mathlib.Omega.{arith}
-use Rattle.root.specs.WholeRoot.{IsWholeRoot}
 use Rattle.root.specs.Steps.{Near}
 use Rattle.root.proofs.Squares.{square_lt}
 
@@ -142,14 +141,3 @@ lowered n a M p s h =
 
     pred : (c : ℕ) → suc c * M ≤ a → c * M ≤ a - 1
     pred c h = omega arith
-
--- ---- the root itself
-
-module _ (n a : ℕ) (h : Near n a) (b : ℕ) (e : a ≡ suc b) where
-  pub at_below : n - b * b ≤ 2 * b → IsWholeRoot n b (n - b * b)
-  at_below l = record { sum = let g = under h e in omega arith; bound = l }
-
-  pub at_near : 2 * b < n - b * b → IsWholeRoot n a (n - b * b - 2 * b - 1)
-  at_near l =
-      let g : n < (suc b + 1) * (suc b + 1) = subst (λ (x : ℕ). n < (x + 1) * (x + 1)) e h.above in
-      subst (λ (x : ℕ). IsWholeRoot n x (n - b * b - 2 * b - 1)) (sym e) (record { sum = omega arith; bound = omega arith })

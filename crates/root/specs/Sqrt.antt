@@ -1,12 +1,11 @@
 -- Document 01, "the square root of IEEE 754, rounded to nearest even, and -0.0 for -0.0. Another negative operand or a non-finite one gives
 -- None". In whole numbers: a finite f64 is some number of units, each the smallest f64 above 0; 2 ^ low binary64 units are 1.0.
-use Rattle.std.specs.Prelude.{◌≡◌, true, false, ℕ, zero, suc, ◌+◌, ◌*◌, ◌/◌, ◌^◌, ◌<◌, T, Float}
+use Rattle.std.specs.Prelude.{◌≡◌, true, false, ℕ, zero, suc, ◌+◌, ◌*◌, ◌/◌, ◌^◌, ◌<◌, T, Float, Option, None, Some}
 use Rattle.std.specs.Float.{nan, inf, fin, binary64}
 use Rattle.std.specs.Float.Ieee.{low, round, fits}
 use Rattle.std.specs.Float.Ieee.Positive.{num, den}
 use Rattle.ieee.specs.Finite.{finite_of}
 use Rattle.ieee.specs.Signs.{is_sign_minus}
-use Rattle.whole.specs.declared.OptionFloat.{OptionFloat}
 use Rattle.root.specs.WholeRoot.{whole_root_of}
 
 -- the size of a finite float in units; 0 for a NaN or an infinity
@@ -22,12 +21,12 @@ radicand u = u * 2 ^ low binary64
 unfoldable pub rounded_root : ℕ → Float
 rounded_root u = round binary64 false (whole_root_of (radicand u)) (2 ^ low binary64)
 
-unfoldable pub sqrt_of : Float → OptionFloat
-sqrt_of nan = OptionFloat.None
-sqrt_of (inf s) = OptionFloat.None
-sqrt_of (fin s zero e) = OptionFloat.Some (fin s zero e)
-sqrt_of (fin true (suc m) e) = OptionFloat.None
-sqrt_of (fin false (suc m) e) = OptionFloat.Some (rounded_root (units_of (fin false (suc m) e)))
+unfoldable pub sqrt_of : Float → Option Float
+sqrt_of nan = None
+sqrt_of (inf s) = None
+sqrt_of (fin s zero e) = Some (fin s zero e)
+sqrt_of (fin true (suc m) e) = None
+sqrt_of (fin false (suc m) e) = Some (rounded_root (units_of (fin false (suc m) e)))
 
 pub record FiniteF64 (x : Float) : Type 0 where
   pub f64 : T (fits binary64 x)

@@ -6,8 +6,7 @@ ghost use Rattle.root.specs.WholeRoot.{whole_root_of};
 ghost use Rattle.root.specs.Sqrt.{rounded_root, sqrt_of, NearestRoot};
 ghost use Rattle.root.specs.Steps.{EvenShift};
 
-use crate::{near_root, root_at, wide};
-use whole::OptionFloat;
+use crate::{near_root, root_at};
 
 // 2^22: a root has 22 binary digits beyond those of a whole root.
 const PLACES: u64 = 0x0040_0000;
@@ -38,7 +37,7 @@ fn even_shift(significand: u64, exponent: u64) -> u64
     requires { (0 < significand) × (significand < 2 ^ prec binary64) }
     ensures { EvenShift significand exponent result }
 {
-    let zeros = wide(u64::leading_zeros(significand));
+    let zeros = u64::from(significand.leading_zeros());
     zeros - (exponent % 2 + zeros) % 2
 }
 
@@ -53,20 +52,20 @@ fn root_bits(significand: u64, exponent: u64) -> u64
 }
 
 // The square root of a float that is finite and not below zero.
-pub fn sqrt(x: f64) -> OptionFloat
+pub fn sqrt(x: f64) -> Option<f64>
     ensures root { result ≡ sqrt_of x }
-    ensures nearest { (y : Float) → result ≡ OptionFloat.Some y → NearestRoot x y }
-    ensures whenever { (y : Float) → NearestRoot x y → result ≡ OptionFloat.Some y }
+    ensures nearest { (y : Float) → result ≡ Some y → NearestRoot x y }
+    ensures whenever { (y : Float) → NearestRoot x y → result ≡ Some y }
 {
     if !ieee::is_finite(x) {
-        return OptionFloat::None;
+        return None;
     }
     let parts = ieee::decompose(x);
     if parts.significand == 0 {
-        return OptionFloat::Some(x);
+        return Some(x);
     }
     if parts.negative {
-        return OptionFloat::None;
+        return None;
     }
-    OptionFloat::Some(ieee::from_bits(root_bits(parts.significand, parts.exponent)))
+    Some(ieee::from_bits(root_bits(parts.significand, parts.exponent)))
 }

@@ -14,12 +14,6 @@ pub struct WholeRoot {
     pub remainder: u64,
 }
 
-fn wide(n: u32) -> u64
-    ensures { result ≡ n }
-{
-    n as u64
-}
-
 // A number near the root of n, from one near the root of n / (2 * scale)^2: Newton's step. With as many digits as scale has, or
 // more, the one before is near enough.
 fn closer(n: u64, near: u64, scale: u64) -> u64
@@ -74,7 +68,7 @@ pub fn whole_root(n: u64) -> WholeRoot
             remainder: 0,
         };
     }
-    let half = wide(u64::leading_zeros(n)) / 2;
+    let half = n.leading_zeros() / 2;
     let high = near_root(n << (2 * half));
     root_at(n, high >> half)
 }

@@ -1,24 +1,23 @@
 -- What each gate gives, by class (document 01, "Classes" and "Corners of semantics.rs").
-use Rattle.std.specs.Prelude.{ℕ, List, [], ◌∷◌, get_or}
-use Rattle.value.specs.declared.Operand.{Operand}
-use Rattle.value.specs.declared.OptionValue.{OptionValue}
+use Rattle.std.specs.Prelude.{ℕ, List, [], ◌∷◌, get_or, Option, None}
 use Rattle.comparison.specs.Comparison.{equal_of, not_equal_of, less_of, less_or_equal_of, greater_of, greater_or_equal_of, logical_and_of, logical_or_of, logical_xor_of, logical_not_of, logical_nand_of, logical_nor_of}
 use Rattle.arithmetic.specs.Arithmetic.{math_of}
 use Rattle.arithmetic.specs.declared.MathOp.{MathOp}
 use Rattle.extended.specs.Extended.{abs_of, sign_of, negate_of, min_operands, max_operands, clamp_of, modulo_floored_of, round_gate, floor_gate, ceil_gate, sqrt_gate}
 use Rattle.bitwise.specs.Bitwise.{bitwise_and_of, bitwise_or_of, bitwise_xor_of, bitwise_not_of, bitwise_nand_of, bitwise_nor_of, bitwise_shift_left_of, bitwise_shift_right_of, bitwise_bit_count_of}
+use Rattle.value.specs.declared.Value.{Value}
 
 -- a rule on the operands at the input ports, in order; a gate of fewer inputs leaves the rest aside
 abbrev pub Rule : Type 0
-Rule = Operand → Operand → Operand → OptionValue
+Rule = Option Value → Option Value → Option Value → Option Value
 
 abbrev pub no_gate : Rule
-no_gate a b c = OptionValue.None
+no_gate a b c = None
 
-abbrev unary : (Operand → OptionValue) → Rule
+abbrev unary : (Option Value → Option Value) → Rule
 unary f a b c = f a
 
-abbrev binary : (Operand → Operand → OptionValue) → Rule
+abbrev binary : (Option Value → Option Value → Option Value) → Rule
 binary f a b c = f a b
 
 -- by class, from 0. The first six are no gates
@@ -35,5 +34,5 @@ rules =
     ∷ unary sqrt_gate
     ∷ []
 
-abbrev pub eval_of : ℕ → Operand → Operand → Operand → OptionValue
+abbrev pub eval_of : ℕ → Option Value → Option Value → Option Value → Option Value
 eval_of class a b c = get_or rules class no_gate a b c

@@ -2,31 +2,34 @@
 #![tactic(auto)]
 
 ghost use Rattle.std.specs.Prelude.{◌≡◌, ◌≤◌};
+ghost use Rattle.ir.specs.declared.class.TheConstants.{COMPARE_EQUAL, COMPARE_GREATER_OR_EQUAL, LOGICAL_AND, LOGICAL_NOR, MATH_ADD, MATH_MODULO, MATH_ABS, MATH_MOD_FLOORED, ROUND, CEIL, BITWISE_AND, BITWISE_NOR, BITWISE_SHIFT_LEFT, BITWISE_BIT_COUNT};
 ghost use Rattle.semantics.specs.Eval.{eval_of};
 ghost use Rattle.semantics.specs.Starred.{starred, AllHold};
 ghost use Rattle.semantics.specs.Whole.{WholeMath};
 
 use arithmetic::MathOp;
 use ir::class;
-use value::{Operand, OptionValue};
+use value::{Operand, Value};
 
 // The comparison gates.
-fn compare(class: u8, a: Operand, b: Operand, c: Operand) -> OptionValue
-    requires { (6 ≤ class) × (class ≤ 11) }
+fn compare(class: u8, a: Operand, b: Operand, c: Operand) -> Option<Value>
+    requires { (COMPARE_EQUAL ≤ class) × (class ≤ COMPARE_GREATER_OR_EQUAL) }
     ensures { result ≡ eval_of class a b c }
 {
     if class < class::COMPARE_LESS {
         return comparison::equality(class != class::COMPARE_NOT_EQUAL, a, b);
     }
-    let or_equal = (class == class::COMPARE_LESS_OR_EQUAL)
-        | (class == class::COMPARE_GREATER_OR_EQUAL);
+    let or_equal = matches!(
+        class,
+        class::COMPARE_LESS_OR_EQUAL | class::COMPARE_GREATER_OR_EQUAL
+    );
     let swapped = class::COMPARE_GREATER <= class;
     comparison::order(or_equal, swapped, a, b)
 }
 
 // The logical gates.
-fn logical(class: u8, a: Operand, b: Operand, c: Operand) -> OptionValue
-    requires { (12 ≤ class) × (class ≤ 17) }
+fn logical(class: u8, a: Operand, b: Operand, c: Operand) -> Option<Value>
+    requires { (LOGICAL_AND ≤ class) × (class ≤ LOGICAL_NOR) }
     ensures { result ≡ eval_of class a b c }
 {
     match class {
@@ -40,8 +43,8 @@ fn logical(class: u8, a: Operand, b: Operand, c: Operand) -> OptionValue
 }
 
 // Add to Modulo.
-fn math(class: u8, a: Operand, b: Operand, c: Operand) -> OptionValue
-    requires { (18 ≤ class) × (class ≤ 22) }
+fn math(class: u8, a: Operand, b: Operand, c: Operand) -> Option<Value>
+    requires { (MATH_ADD ≤ class) × (class ≤ MATH_MODULO) }
     ensures { result ≡ eval_of class a b c }
 {
     match class {
@@ -54,8 +57,8 @@ fn math(class: u8, a: Operand, b: Operand, c: Operand) -> OptionValue
 }
 
 // Abs to ModuloFloored.
-fn extended_math(class: u8, a: Operand, b: Operand, c: Operand) -> OptionValue
-    requires { (23 ≤ class) × (class ≤ 29) }
+fn extended_math(class: u8, a: Operand, b: Operand, c: Operand) -> Option<Value>
+    requires { (MATH_ABS ≤ class) × (class ≤ MATH_MOD_FLOORED) }
     ensures { result ≡ eval_of class a b c }
 {
     match class {
@@ -70,8 +73,8 @@ fn extended_math(class: u8, a: Operand, b: Operand, c: Operand) -> OptionValue
 }
 
 // Round, Floor and Ceil.
-fn rounding(class: u8, a: Operand, b: Operand, c: Operand) -> OptionValue
-    requires { (30 ≤ class) × (class ≤ 32) }
+fn rounding(class: u8, a: Operand, b: Operand, c: Operand) -> Option<Value>
+    requires { (ROUND ≤ class) × (class ≤ CEIL) }
     ensures { result ≡ eval_of class a b c }
 {
     match class {
@@ -82,8 +85,8 @@ fn rounding(class: u8, a: Operand, b: Operand, c: Operand) -> OptionValue
 }
 
 // The bitwise gates up to NOR.
-fn bitwise_logic(class: u8, a: Operand, b: Operand, c: Operand) -> OptionValue
-    requires { (33 ≤ class) × (class ≤ 38) }
+fn bitwise_logic(class: u8, a: Operand, b: Operand, c: Operand) -> Option<Value>
+    requires { (BITWISE_AND ≤ class) × (class ≤ BITWISE_NOR) }
     ensures { result ≡ eval_of class a b c }
 {
     match class {
@@ -97,8 +100,8 @@ fn bitwise_logic(class: u8, a: Operand, b: Operand, c: Operand) -> OptionValue
 }
 
 // Shifts and BitCount.
-fn shifts(class: u8, a: Operand, b: Operand, c: Operand) -> OptionValue
-    requires { (39 ≤ class) × (class ≤ 41) }
+fn shifts(class: u8, a: Operand, b: Operand, c: Operand) -> Option<Value>
+    requires { (BITWISE_SHIFT_LEFT ≤ class) × (class ≤ BITWISE_BIT_COUNT) }
     ensures { result ≡ eval_of class a b c }
 {
     match class {
@@ -110,14 +113,15 @@ fn shifts(class: u8, a: Operand, b: Operand, c: Operand) -> OptionValue
 
 // The value that a gate of the class gives of the operands at its input ports, in their order; a gate of fewer inputs
 // leaves the rest aside. A class that is no gate gives none.
-pub fn eval_in(class: u8, a: Operand, b: Operand, c: Operand) -> OptionValue
+#[tactic(auto, using(crate::proofs::Starred::starred_hold))]
+pub fn eval_in(class: u8, a: Operand, b: Operand, c: Operand) -> Option<Value>
     ensures rule { result ≡ eval_of class a b c }
     ensures starred { AllHold starred }
 {
     if class <= class::MATH_MODULO {
         if class < class::LOGICAL_AND {
             if class < class::COMPARE_EQUAL {
-                return OptionValue::None;
+                return None;
             }
             return compare(class, a, b, c);
         }
@@ -141,12 +145,12 @@ pub fn eval_in(class: u8, a: Operand, b: Operand, c: Operand) -> OptionValue
     if class == class::MATH_SQRT {
         return extended::sqrt(a);
     }
-    OptionValue::None
+    None
 }
 
 // Add to Modulo of two whole numbers.
-pub fn whole_math(class: u8, a: i64, b: i64) -> OptionValue
-    requires { (18 ≤ class) × (class ≤ 22) }
+pub fn whole_math(class: u8, a: i64, b: i64) -> Option<Value>
+    requires { (MATH_ADD ≤ class) × (class ≤ MATH_MODULO) }
     ensures { WholeMath class a b result }
 {
     match class {

@@ -3,12 +3,14 @@ use Prim.Native.Nat.{ℕ, zero, suc, ◌+◌, ◌-◌, ◌*◌, ◌/◌, ◌%◌
 use Prim.Native.Char.{code}
 use native.Mathlib.Omega.{arith}
 use native.Mathlib.Nat.{sub-zero, div-div-eq-div-mul}
-use mathlib.Core.Path.{◌≡◌, refl, sym, ap, ap₂, ◌∙◌}
+use mathlib.Core.Path.{◌≡◌, refl, sym, ap, ap₂, subst, ◌∙◌}
 use mathlib.Core.Bool.{Bool, true, false, cond}
 use mathlib.Core.List.{List, [], ◌∷◌, ◌++◌, append_assoc, append-nil}
 use lib.Dec.{ltb}
 use lib.ListN.{length, get_or, take, drop, length-append, length-drop, length-replicate, replicate-append-replicate}
 use lib.Seq.{take-suc, take-length, take_at, drop-append-le, drop-append-add, length-take-le}
+use borrow.Rule.Slice.PartMut.{mid_of, put_mid, mid_len, Post-is}
+use mir.Val.{bool_byte}
 use borrow.Author.Tests.{lt-ltb, le-ltb, ltb-true, ltb-false}
 use Rattle.sheet_line.specs.Limits.{line_width, line_bytes}
 use Rattle.encoding.specs.Numbers.{bytes_of, splice, Written}
@@ -28,32 +30,17 @@ use Rattle.sheet_line.proofs.Widths.{hex_length, number_length, text_fits, ended
 pub after : {xs l m : List ℕ} {i j : ℕ} → Written xs l m i j → (n : ℕ) → i + length xs + n ≤ length l → j + n ≤ length m
 after a n h = omega (arith, a.past, written_length a (omega arith))
 
--- ---- bytes one by one
+-- ---- a part of the buffer, written at once
 
-copied : (bs : List ℕ) (k : ℕ) → k ≤ length bs → each (λ i. get_or bs i 0 ∷ []) (up_to k) ≡ take k bs
-unfolding up_to each
-copied bs zero h = refl
-copied bs (suc k) h = each_up (λ i. get_or bs i 0 ∷ []) k ∙ (ap (λ (l : List ℕ). l ++ (get_or bs k 0 ∷ [])) (copied bs k (omega arith)) ∙ sym (take-suc bs k 0 (omega arith)))
+pub written_part : (l bs : List ℕ) (at : ℕ) {ys : List ℕ} → ys ≡ bs → at + length bs ≤ length l → Written bs l (put_mid at (at + length bs - at) l ys) at (at + length bs)
+unfolding splice
+written_part l bs at y h = record { wrote = ap₂ (λ (b m : List ℕ). take at l ++ (b ++ m)) y (Post-is at (at + length bs) l (omega arith)); past = refl }
 
-all_copied : (bs : List ℕ) → each (λ i. get_or bs i 0 ∷ []) (up_to (length bs)) ≡ bs
-all_copied bs = copied bs (length bs) (omega arith) ∙ take-length bs
-
-pub copy_room : (bs l : List ℕ) (at : ℕ) → at + length bs ≤ length l → at + length (each (λ i. get_or bs i 0 ∷ []) (up_to (length bs))) ≤ length l
-copy_room bs l at h = omega (arith, ap length (all_copied bs))
-
-pub copy_end : {bs l m : List ℕ} {from at i : ℕ} → Filling (λ i. get_or bs i 0 ∷ []) (length bs) l m from at i → length bs ≤ i → Written bs l m from at
-copy_end {bs} s h = same_written (all_copied bs) (fill_end s h)
-
-spaced : (k : ℕ) → each (λ i. space ∷ []) (up_to k) ≡ spaces k
-unfolding up_to each
-spaced zero = refl
-spaced (suc k) = let e : k + 1 ≡ suc k = omega arith in each_up (λ i. space ∷ []) k ∙ (ap (λ (l : List ℕ). l ++ (space ∷ [])) (spaced k) ∙ (replicate-append-replicate k 1 space ∙ ap spaces e))
-
-pub spaces_room : (l : List ℕ) (at n : ℕ) → at + n ≤ length l → at + length (each (λ i. space ∷ []) (up_to n)) ≤ length l
-spaces_room l at n h = omega (arith, ap length (spaced n), length-replicate n space)
-
-pub spaces_end : {n : ℕ} {l m : List ℕ} {from at i : ℕ} → Filling (λ i. space ∷ []) n l m from at i → n ≤ i → Written (spaces n) l m from at
-spaces_end {n} s h = same_written (spaced n) (fill_end s h)
+pub written_spaces : (l : List ℕ) (at n : ℕ) {ys : List ℕ} → ys ≡ spaces (length (mid_of at (at + n - at) l)) → at + n ≤ length l → Written (spaces n) l (put_mid at (at + n - at) l ys) at (at + n)
+written_spaces l at n {ys} y h =
+    let e : length (spaces n) ≡ n = length-replicate n space in
+    let many : length (mid_of at (at + n - at) l) ≡ n = mid_len at (at + n) l h ∙ omega arith in
+    subst (λ (k : ℕ). Written (spaces n) l (put_mid at (at + k - at) l ys) at (at + k)) e (written_part l (spaces n) at (y ∙ ap spaces many) (omega (arith, e)))
 
 -- ---- the number of a node and its class
 
@@ -128,6 +115,11 @@ module _ {l m : List ℕ} {i j : ℕ} {f : Fate} (g : Fate) (e : f ≡ g) where
   pub letter_number : (x : ℕ) → numbers_of g ≡ x ∷ [] → Written (letter_of g ∷ number_text x) l m i j → Written (fate_text f) l m i j
   unfolding fate_text each
   letter_number x n w = rw (e, n) (same_written (ap (λ (t : List ℕ). letter_of g ∷ t) (sym (append-nil (number_text x)))) w)
+
+-- a Bool as a number
+pub bool_number : (b : Bool) → cond b 1 0 ≡ bool_byte b
+bool_number true = refl
+bool_number false = refl
 
 pub as_fate : {l m : List ℕ} {i j : ℕ} {f g : Fate} → f ≡ g → Written (fate_text g) l m i j → Written (fate_text f) l m i j
 as_fate e w = same_written (ap fate_text (sym e)) w

@@ -1,11 +1,11 @@
 -- The node, the class and the fate are read back from a line, with every bit.
+use Rattle.std.specs.Prelude.{None, Some}
 use Prim.Native.Nat.{ℕ, zero, suc, ◌+◌, ◌-◌, ◌*◌, ◌/◌, ◌%◌, ◌^◌, ◌≤◌, ◌<◌}
 use Prim.Native.Char.{code}
 use native.Mathlib.Omega.{arith}
 use native.Mathlib.Nat.{add-zero, pow-suc}
 use mathlib.Core.Path.{◌≡◌, refl, sym, ap, ap₂, ◌∙◌}
 use mathlib.Core.Bool.{Bool, true, false, cond}
-use mathlib.Core.Option.{none, some}
 use mathlib.Core.List.{List, [], ◌∷◌, ◌++◌}
 use lib.Dec.{eqb, ltb}
 use lib.ListN.{length, get_or, length-replicate, get_or-replicate, get_or-append}
@@ -147,15 +147,15 @@ module _ (l : Line) (f : Fits l) where
   columns_are : columns s ≡ l
   columns_are = ap₂ (λ (n c : ℕ). record { node = n; class = c; fate = (columns s).fate }) node_is class_is ∙ ap (λ (g : Fate). record { node = l.node; class = l.class; fate = g }) fate_is
 
-  line_back : read_line s ≡ some l
+  line_back : read_line s ≡ Some l
   unfolding read_line
   line_back = rw (columns_are, bytes_refl s) refl
 
-only_line : (l : Line) (s : List ℕ) → read_line s ≡ some l → s ≡ characters l
+only_line : (l : Line) (s : List ℕ) → read_line s ≡ Some l → s ≡ characters l
 unfolding read_line
 only_line l s e = pick (eq_bytes s (characters (columns s))) refl e
   where
-    pick : (b : Bool) → eq_bytes s (characters (columns s)) ≡ b → cond b (some (columns s)) none ≡ some l → s ≡ characters l
+    pick : (b : Bool) → eq_bytes s (characters (columns s)) ≡ b → cond b (Some (columns s)) None ≡ Some l → s ≡ characters l
     pick true p q = let c : columns s ≡ l = cc in bytes_same s (characters (columns s)) p ∙ ap characters c
     pick false p q = cc
 

@@ -1,7 +1,6 @@
 -- "the fates can be read back from it": what a line says, by its 72 characters alone.
-use Rattle.std.specs.Prelude.{ℕ, zero, suc, ◌+◌, ◌-◌, ◌*◌, ◌^◌, ◌<◌, ◌≡◌, cond, List, eqb, ltb, get_or}
+use Rattle.std.specs.Prelude.{ℕ, zero, suc, ◌+◌, ◌-◌, ◌*◌, ◌^◌, ◌<◌, ◌≡◌, cond, List, eqb, ltb, get_or, Option, None, Some}
 use Prim.Native.Char.{code}
-use Rattle.std.proofs.Math.Option.{Option, none, some}
 use Rattle.text.specs.Text.{eq_bytes}
 use Rattle.model.specs.Maps.{All}
 use Rattle.sheet_line.specs.declared.Fate.{Fate}
@@ -37,7 +36,7 @@ columns s = record { node = decimal_at 4 s 0; class = decimal_at 2 s 6; fate = f
 
 -- that, where these are the characters of its line, and nothing where they are those of no line
 unfoldable pub read_line : List ℕ → Option Line
-read_line s = cond (eq_bytes s (characters (columns s))) (some (columns s)) none
+read_line s = cond (eq_bytes s (characters (columns s))) (Some (columns s)) None
 
 -- the number and the class of a line fit its columns, and the numbers of its fate have 64 bits
 pub record Fits (l : Line) : Type 0 where
@@ -47,5 +46,5 @@ pub record Fits (l : Line) : Type 0 where
 
 -- a line that fits is read back from its characters, and no other characters are read as it
 pub record ReadsBack (l : Line) : Type 0 where
-  pub back : Fits l → read_line (characters l) ≡ some l
-  pub only : (s : List ℕ) → read_line s ≡ some l → s ≡ characters l
+  pub back : Fits l → read_line (characters l) ≡ Some l
+  pub only : (s : List ℕ) → read_line s ≡ Some l → s ≡ characters l

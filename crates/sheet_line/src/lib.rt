@@ -81,26 +81,18 @@ fn write_text(out: &mut [u8], at: usize, bytes: &[u8]) -> usize
     requires { at + length bytes.now ≤ length out.old }
     ensures { Written bytes.now out.old out.new at result }
 {
-    let mut next = at;
-    let mut i = 0;
-    while i < bytes.len() {
-        next = numbers::write_byte(out, next, bytes[i]);
-        i += 1;
-    }
-    next
+    let past = at + bytes.len();
+    out[at..past].copy_from_slice(bytes);
+    past
 }
 
 fn write_spaces(out: &mut [u8], at: usize, count: usize) -> usize
     requires { at + count ≤ length out.old }
     ensures { Written (spaces count) out.old out.new at result }
 {
-    let mut next = at;
-    let mut i = 0;
-    while i < count {
-        next = numbers::write_byte(out, next, b' ');
-        i += 1;
-    }
-    next
+    let past = at + count;
+    out[at..past].fill(b' ');
+    past
 }
 
 // A line without text.
@@ -167,12 +159,6 @@ fn write_vector(out: &mut [u8], at: usize, x: u64, y: u64, z: u64) -> usize
     write_number(out, third, z)
 }
 
-fn bool_number(b: bool) -> u64
-    ensures { result ≡ cond b 1 0 }
-{
-    if b { 1 } else { 0 }
-}
-
 fn write_fate(out: &mut [u8], at: usize, fate: Fate) -> usize
     requires { at + 55 ≤ length out.old }
     ensures { Written (fate_text fate) out.old out.new at result }
@@ -182,7 +168,7 @@ fn write_fate(out: &mut [u8], at: usize, fate: Fate) -> usize
         Fate::Removed => numbers::write_byte(out, at, b'R'),
         Fate::Int(n) => write_one(out, at, b'I', n),
         Fate::Float(n) => write_one(out, at, b'F', n),
-        Fate::Bool(b) => write_one(out, at, b'B', bool_number(b)),
+        Fate::Bool(b) => write_one(out, at, b'B', u64::from(b)),
         Fate::Vector { x, y, z } => write_vector(out, at, x, y, z),
     }
 }

@@ -6,8 +6,7 @@ ghost use Rattle.graph.specs.Decode.{decode};
 ghost use Rattle.stages.specs.Stages.{number_in, pops_in};
 
 use ir::limit;
-use propagation::Propagated;
-use state::WORDS;
+use state::{Known, Plan};
 
 // The refusal's number of questions 1 to 8 and 12, or 0, and the pops of the worklist.
 pub fn mezburiko_worklist(input: &[u8], pops: &mut usize) -> u8
@@ -15,28 +14,16 @@ pub fn mezburiko_worklist(input: &[u8], pops: &mut usize) -> u8
     ensures pops { pops.new ≡ pops_in (decode input.now) }
 {
     let own = [resolve::SET_NOTHING; limit::NODES];
-    let mut kinds = [0u8; limit::NODES];
-    let mut words = [0u64; WORDS];
-    let mut actions = [0u8; limit::NODES];
-    let mut details = [0u16; limit::NODES];
-    match propagation::propagate(
-        input,
-        &own,
-        &mut kinds,
-        &mut words,
-        &mut actions,
-        &mut details,
-    ) {
-        Propagated::Settled {
-            counts: _,
-            pops: turns,
-        } => {
-            *pops = turns;
+    let mut known = Known::new();
+    let mut plan = Plan::new();
+    match propagation::propagate(input, &own, &mut known, &mut plan) {
+        Ok(propagated) => {
+            *pops = propagated.pops;
             0
         }
-        Propagated::Refused { number, place: _ } => {
+        Err(refusal) => {
             *pops = 0;
-            number
+            refusal.number()
         }
     }
 }

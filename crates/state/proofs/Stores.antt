@@ -1,10 +1,10 @@
 -- The arrays hold what a trial adds.
+use Rattle.std.specs.Prelude.{Option, None, Some}
 use Prim.Native.Nat.{ℕ, zero, suc, ◌*◌, ◌≤◌, ◌<◌}
 use native.Mathlib.Omega.{arith}
 use native.Mathlib.Decide.{dec_lt}
 use mathlib.Core.Path.{◌≡◌, refl, sym, ap, ap₂, ◌∙◌, fun_ext}
 use mathlib.Core.Bool.{Bool, true, false, false≢true}
-use mathlib.Core.Option.{Option, none, some}
 use mathlib.Core.List.{List}
 use mathlib.Core.Logic.{◌⊎◌, inl, inr, ◌≢◌}
 use lib.Dec.{eqb}
@@ -83,11 +83,11 @@ module _ (ws : List Wire) (detail n : ℕ) where
   abbrev says : ℕ → Option Value → Option PlanAction
   says action o = valued (shape_at ws action detail n) o
 
-  says_none : (o : Option Value) → says 0 o ≡ none
+  says_none : (o : Option Value) → says 0 o ≡ None
   unfolding valued shape_at
   says_none o = refl
 
-  says_more : (action : ℕ) → action ≤ 3 → action ≢ 1 → (p : Option PlanAction) (o : Option Value) → (action ≢ 0) ⊎ (p ≡ none) → or_else (says action none) p ≡ says action o
+  says_more : (action : ℕ) → action ≤ 3 → action ≢ 1 → (p : Option PlanAction) (o : Option Value) → (action ≢ 0) ⊎ (p ≡ None) → or_else (says action None) p ≡ says action o
   unfolding valued shape_at or_else
   says_more zero l h p o (inl k) = absurd (k refl)
   says_more zero l h p o (inr e) = e
@@ -105,22 +105,22 @@ pub record KnownAfter (known : Map Value) (n : ℕ) (o : Option Value) (kinds wo
   pub known_is : put known n o ≡ known_of kinds words
   pub kinds_listed : (m : ℕ) → is_kind (get_or kinds m 0)
 
-kind_held : (v : Value) (a b c d : ℕ) → held (kind_of v) a b c d ≡ some (held_value (kind_of v) a b c d)
+kind_held : (v : Value) (a b c d : ℕ) → held (kind_of v) a b c d ≡ Some (held_value (kind_of v) a b c d)
 unfolding held
 kind_held v a b c d = rw (ne_eqb (kind_of v) 0 (λ e. omega (arith, (property_kind (kind_of v) (kind_role v)).least, e))) refl
 
-module _ (g : Graph) (kinds words actions details : List ℕ) (s : State) (n : ℕ) (in-nodes : n < max_nodes) (in_graph : n < size g) (h : Holds g kinds words actions details s) (unknown : s.known n ≡ none) where
-  pub same_known : KnownAfter s.known n none kinds words
+module _ (g : Graph) (kinds words actions details : List ℕ) (s : State) (n : ℕ) (in-nodes : n < max_nodes) (in_graph : n < size g) (h : Holds g kinds words actions details s) (unknown : s.known n ≡ None) where
+  pub same_known : KnownAfter s.known n None kinds words
   same_known = record { kinds_long = h.kinds_long; words_long = h.words_long; known_is = put_none s.known n ∙ h.known; kinds_listed = h.kinds_listed }
 
   module _ (v : Value) (kinds' words' : List ℕ) (l : Learnt v n kinds words kinds' words') where
-    stored : put s.known n (some v) ≡ known_of (set kinds n (kind_of v)) (store_words words n l.held.a l.held.b l.held.c l.held.d)
+    stored : put s.known n (Some v) ≡ known_of (set kinds n (kind_of v)) (store_words words n l.held.a l.held.b l.held.c l.held.d)
     unfolding known_of map_of
     stored =
         sym (store held kinds words n (kind_of v) l.held.a l.held.b l.held.c l.held.d (omega (arith, h.kinds_long)) (omega (arith, h.words_long)) (sym (ap (λ (f : Map Value). f n) h.known) ∙ unknown)
-        ∙ ap₂ (λ (f : Map Value) (o : Option Value). put f n o) (sym h.known) (kind_held v _ _ _ _ ∙ ap some l.back))
+        ∙ ap₂ (λ (f : Map Value) (o : Option Value). put f n o) (sym h.known) (kind_held v _ _ _ _ ∙ ap Some l.back))
 
-    pub learnt : KnownAfter s.known n (some v) kinds' words'
+    pub learnt : KnownAfter s.known n (Some v) kinds' words'
     learnt =
         rw (l.kind_set, l.words_set)
         (record {
@@ -142,7 +142,7 @@ module _ (g : Graph) (kinds words actions details : List ℕ) (s : State) (n : �
     unfolding plan_of shape_of
     plan_there m q = put_there s.plan n o.plan m q ∙ ap (λ (f : Map PlanAction). f m) h.plan ∙ ap (valued (shape_at g.wires (get_or actions m 0) (get_or details m 0) m)) (sym (put_there s.known n o.value m q))
 
-    plan_before : s.plan n ≡ valued (shape_at g.wires (get_or actions n 0) (get_or details n 0) n) none
+    plan_before : s.plan n ≡ valued (shape_at g.wires (get_or actions n 0) (get_or details n 0) n) None
     unfolding plan_of shape_of
     plan_before = ap (λ (f : Map PlanAction). f n) h.plan ∙ ap (valued (shape_at g.wires (get_or actions n 0) (get_or details n 0) n)) unknown
 
@@ -159,7 +159,7 @@ module _ (g : Graph) (kinds words actions details : List ℕ) (s : State) (n : �
         go (inr q) = ap is_some (put_there s.known n o.value m q) ∙ e
 
     -- the plan's arrays are as they were
-    pub kept : (get_or actions n 0 ≢ 0) ⊎ (o.plan ≡ none) → Holds g kinds' words' actions details (add s n o)
+    pub kept : (get_or actions n 0 ≢ 0) ⊎ (o.plan ≡ None) → Holds g kinds' words' actions details (add s n o)
     unfolding add plan_of shape_of
     kept f =
         record {
@@ -225,7 +225,7 @@ module _ (g : Graph) (kinds words actions details : List ℕ) (s : State) (n : �
           its_plan m (inl q) =
               rw (q.1, action_here, detail_here, value_here)
               (put_here s.plan n o.plan
-              ∙ ap (λ (p : Option PlanAction). or_else p o.plan) (plan_before ∙ ap (λ (a : ℕ). valued (shape_at g.wires a (get_or details n 0) n) none) z ∙ says_none g.wires (get_or details n 0) n none)
+              ∙ ap (λ (p : Option PlanAction). or_else p o.plan) (plan_before ∙ ap (λ (a : ℕ). valued (shape_at g.wires a (get_or details n 0) n) None) z ∙ says_none g.wires (get_or details n 0) n None)
               ∙ sym says)
           its_plan m (inr q) = rw (get_or-set_other actions n m action 0 (apart q), get_or-set_other details n m detail 0 (apart q)) (plan_there m q)
 
@@ -242,7 +242,7 @@ module _ (kinds words actions details : List ℕ) (n : ℕ) (in-nodes : n < max_
   -- the arrays then hold what the trial adds, and r says whether it has a value
   abbrev pub Added : List ℕ → List ℕ → List ℕ → List ℕ → Bool → Type 0
   Added kinds' words' actions' details' r =
-      (g : Graph) (s : State) → n < size g → Holds g kinds words actions details s → s.known n ≡ none → Within g t
+      (g : Graph) (s : State) → n < size g → Holds g kinds words actions details s → s.known n ≡ None → Within g t
       → Holds g kinds' words' actions' details' (add s n (offer_of g n t)) × (r ≡ is_some (offer_of g n t).value)
 
   pub adds_nothing : t ≡ Trial.Nothing → Added kinds words actions details false
@@ -252,14 +252,14 @@ module _ (kinds words actions details : List ℕ) (n : ℕ) (in-nodes : n < max_
   pub adds_known : (v : Value) (kinds' words' : List ℕ) → t ≡ Trial.Known v → Learnt v n kinds words kinds' words' → Added kinds' words' actions details true
   unfolding is_some value_offer
   adds_known v kinds' words' e l =
-      rw e (λ g s i h u w. (kept g kinds words actions details s n in-nodes i h u (value_offer (some v)) kinds' words' (learnt g kinds words actions details s n in-nodes i h u v kinds' words' l) (inr refl), refl))
+      rw e (λ g s i h u w. (kept g kinds words actions details s n in-nodes i h u (value_offer (Some v)) kinds' words' (learnt g kinds words actions details s n in-nodes i h u v kinds' words' l) (inr refl), refl))
 
   pub adds_literal : (v : Value) (kinds' words' actions' details' : List ℕ) → t ≡ Trial.BecomeLiteral v → Learnt v n kinds words kinds' words' → Planned n 1 0 actions details actions' details' → Added kinds' words' actions' details' true
   unfolding is_some literal_offer valued shape_at
   adds_literal v kinds' words' actions' details' e l p =
       rw e
       (λ g s i h u w.
-      (plans g kinds words actions details s n in-nodes i h u (literal_offer (some v)) kinds' words' (learnt g kinds words actions details s n in-nodes i h u v kinds' words' l) 1 0 (omega arith) (λ q. absurd (omega arith)) (λ q. refl) refl actions' details' p, refl))
+      (plans g kinds words actions details s n in-nodes i h u (literal_offer (Some v)) kinds' words' (learnt g kinds words actions details s n in-nodes i h u v kinds' words' l) 1 0 (omega arith) (λ q. absurd (omega arith)) (λ q. refl) refl actions' details' p, refl))
 
   pub adds_short_circuit : (chosen : ℕ) (actions' details' : List ℕ) → t ≡ Trial.ShortCircuit chosen → Planned n 2 chosen actions details actions' details' → Added kinds words actions' details' false
   unfolding is_some valued shape_at

@@ -1,6 +1,5 @@
 -- How arrays hold the known values: the kind of each node's value, 0 where none is known, and four words for each node.
-use Rattle.std.specs.Prelude.{ℕ, ◌+◌, ◌*◌, ◌<◌, ◌≡◌, ◌⊎◌, cond, List, eqb, get_or}
-use Rattle.std.proofs.Math.Option.{Option, none, some}
+use Rattle.std.specs.Prelude.{ℕ, ◌+◌, ◌*◌, ◌<◌, ◌≡◌, ◌⊎◌, cond, List, eqb, get_or, Option, None, Some}
 use Rattle.ir.specs.Kinds.{role_of}
 use Rattle.ir.specs.declared.Role.TheVariants.{Property}
 use Rattle.value.specs.declared.Value.{Value}
@@ -13,7 +12,7 @@ is_kind kind = (kind ≡ 0) ⊎ (role_of kind ≡ Property)
 
 -- the value of a kind that these words hold, where one is known
 unfoldable pub held : ℕ → ℕ → ℕ → ℕ → ℕ → Option Value
-held kind a b c d = cond (eqb kind 0) none (some (held_value kind a b c d))
+held kind a b c d = cond (eqb kind 0) None (Some (held_value kind a b c d))
 
 -- the known values that the arrays hold
 unfoldable pub known_of : List ℕ → List ℕ → Map Value

@@ -1,6 +1,5 @@
 -- How arrays hold the plan: for each node an action and its detail.
-use Rattle.std.specs.Prelude.{ℕ, ◌*◌, ◌≤◌, ◌<◌, ◌≡◌, true, cond, List, map, eqb, length, get_or}
-use Rattle.std.proofs.Math.Option.{Option, none, some}
+use Rattle.std.specs.Prelude.{ℕ, ◌*◌, ◌≤◌, ◌<◌, ◌≡◌, true, cond, List, map, eqb, length, get_or, Option, None, Some}
 use Rattle.ir.specs.Limits.{max_nodes}
 use Rattle.ir.specs.declared.PortRef.{PortRef}
 use Rattle.ir.specs.declared.Wire.{Wire}
@@ -21,24 +20,24 @@ targets_in ws n p = map (λ w. w.target) (keep (λ w. is_port w.source n p) ws)
 -- whose chosen wire has that number, 3 a Branch whose taken port it is, and another number nothing
 unfoldable pub shape_at : List Wire → ℕ → ℕ → ℕ → Option PlanAction
 shape_at ws action detail n =
-    cond (eqb action 1) (some (BecomeLiteral (Value.Bool true)))
-    (cond (eqb action 2) (some (ShortCircuit (get_or ws detail no_wire).source))
-    (cond (eqb action 3) (some (Truncate (targets_in ws n detail)))
-    none))
+    cond (eqb action 1) (Some (BecomeLiteral (Value.Bool true)))
+    (cond (eqb action 2) (Some (ShortCircuit (get_or ws detail no_wire).source))
+    (cond (eqb action 3) (Some (Truncate (targets_in ws n detail)))
+    None))
 
 unfoldable pub shape_of : List Wire → List ℕ → List ℕ → Map PlanAction
 shape_of ws actions details n = shape_at ws (get_or actions n 0) (get_or details n 0) n
 
 -- a planned literal has the node's known value
 abbrev pub literal_of : Option Value → Option PlanAction
-literal_of none = none
-literal_of (some v) = some (BecomeLiteral v)
+literal_of None = None
+literal_of (Some v) = Some (BecomeLiteral v)
 
 unfoldable pub valued : Option PlanAction → Option Value → Option PlanAction
-valued none o = none
-valued (some (BecomeLiteral v)) o = literal_of o
-valued (some (ShortCircuit s)) o = some (ShortCircuit s)
-valued (some (Truncate ts)) o = some (Truncate ts)
+valued None o = None
+valued (Some (BecomeLiteral v)) o = literal_of o
+valued (Some (ShortCircuit s)) o = Some (ShortCircuit s)
+valued (Some (Truncate ts)) o = Some (Truncate ts)
 
 -- the plan that the arrays hold
 unfoldable pub plan_of : List Wire → Map Value → List ℕ → List ℕ → Map PlanAction

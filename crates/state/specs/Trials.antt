@@ -1,6 +1,5 @@
 -- What each case of `Trial` offers a node.
-use Rattle.std.specs.Prelude.{ℕ, ◌<◌, length, get_or}
-use Rattle.std.proofs.Math.Option.{none, some}
+use Rattle.std.specs.Prelude.{ℕ, ◌<◌, length, get_or, None, Some}
 use Rattle.graph.specs.Graph.{Graph}
 use Rattle.records.specs.Access.{no_wire}
 use Rattle.model.specs.Inputs.{targets}
@@ -11,11 +10,11 @@ use Rattle.state.specs.declared.Trial.TheVariants.{Nothing, Known, BecomeLiteral
 
 abbrev pub offer_of : Graph → ℕ → Trial → Offer
 offer_of g n Nothing = no_offer
-offer_of g n (Known v) = value_offer (some v)
-offer_of g n (BecomeLiteral v) = literal_offer (some v)
-offer_of g n (ShortCircuit chosen) = record { plan = some (Plan.ShortCircuit (get_or g.wires chosen no_wire).source); value = none }
-offer_of g n (ShortCircuitKnown chosen v) = record { plan = some (Plan.ShortCircuit (get_or g.wires chosen no_wire).source); value = some v }
-offer_of g n (Truncate taken) = record { plan = some (Plan.Truncate (targets g n taken)); value = none }
+offer_of g n (Known v) = value_offer (Some v)
+offer_of g n (BecomeLiteral v) = literal_offer (Some v)
+offer_of g n (ShortCircuit chosen) = record { plan = Some (Plan.ShortCircuit (get_or g.wires chosen no_wire).source); value = None }
+offer_of g n (ShortCircuitKnown chosen v) = record { plan = Some (Plan.ShortCircuit (get_or g.wires chosen no_wire).source); value = Some v }
+offer_of g n (Truncate taken) = record { plan = Some (Plan.Truncate (targets g n taken)); value = None }
 
 -- a wire that it names is one of the graph's
 abbrev pub Within : Graph → Trial → Type 0

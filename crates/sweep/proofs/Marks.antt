@@ -1,7 +1,7 @@
 -- The eligible nodes, by the arrays and by the plan.
+use Rattle.std.specs.Prelude.{Option}
 use mathlib.Core.Path.{◌≡◌, refl, sym, ap, subst, ◌∙◌}
 use mathlib.Core.Bool.{Bool, true, false, cond, not, ◌&&◌}
-use mathlib.Core.Option.{Option}
 use mathlib.Core.List.{List, [], ◌∷◌}
 use mathlib.Core.Logic.{inl, inr}
 use Prim.Native.Nat.{ℕ, zero, suc, ◌+◌, ◌<◌, ◌≤◌}
@@ -42,42 +42,19 @@ pub none_past : (g : Graph) (actions : List ℕ) (n : ℕ) → length g.nodes �
 unfolding eligible_at size
 none_past g actions n l = rw (le-ltb n (length g.nodes) l) refl
 
--- ---- one node
-
-module _ (class flags action : ℕ) where
-  pub by_nofold : {b : Bool} → b ≡ nofold flags → b ≡ true → false ≡ eligible_by class flags action
-  unfolding eligible_by
-  by_nofold e t = rw (sym e ∙ t)
-
-  module _ {b : Bool} (nofolds : b ≡ nofold flags) (folds : b ≡ false) where
-    pub by_label : {c : Bool} → c ≡ labelled flags → c ≡ true → false ≡ eligible_by class flags action
-    unfolding eligible_by
-    by_label e t = rw (sym nofolds ∙ folds, sym e ∙ t)
-
-    module _ {c : Bool} (labels : c ≡ labelled flags) (unlabelled : c ≡ false) where
-      pub by_kept : {r : Bool} → action ≡ 0 → r ≡ is_pure class → r ≡ eligible_by class flags action
-      unfolding eligible_by
-      by_kept a p = p ∙ rw (sym nofolds ∙ folds, sym labels ∙ unlabelled, a)
-
-      pub by_literal : (action ≡ 0 → ⊥) → eqb action 1 ≡ eligible_by class flags action
-      unfolding eligible_by
-      by_literal a = rw (sym nofolds ∙ folds, sym labels ∙ unlabelled, ne_eqb action 0 a)
-
 -- ---- marking
 
 pub record Marking (g : Graph) (actions : List ℕ) (i : ℕ) (marks : List Bool) : Type 0 where
-  pub low : i ≤ length g.nodes
   pub long : length marks ≡ max_nodes
   pub done : (n : ℕ) → n < i → get_or marks n false ≡ eligible_at g actions n
   pub rest : (n : ℕ) → i ≤ n → get_or marks n false ≡ false
 
 pub marking_start : (g : Graph) (actions : List ℕ) (k : ℕ) → k ≡ max_nodes → Marking g actions 0 (replicate k false)
-marking_start g actions k e = record { low = omega arith; long = length-replicate {A = Bool} k false ∙ e; done = λ n l. absurd (omega arith); rest = λ n l. clear k n }
+marking_start g actions k e = record { long = length-replicate {A = Bool} k false ∙ e; done = λ n l. absurd (omega arith); rest = λ n l. clear k n }
 
-pub marking_more : {g : Graph} {actions : List ℕ} {i : ℕ} {marks : List Bool} {b : Bool} → Marking g actions i marks → i < length g.nodes → i < max_nodes → b ≡ eligible_at g actions i → Marking g actions (i + 1) (set marks i b)
-marking_more {g} {actions} {i} {marks} {b} m l h e =
+pub marking_more : {g : Graph} {actions : List ℕ} {i : ℕ} {marks : List Bool} {b : Bool} → Marking g actions i marks → i < max_nodes → b ≡ eligible_at g actions i → Marking g actions (i + 1) (set marks i b)
+marking_more {g} {actions} {i} {marks} {b} m h e =
     record {
-      low = omega arith;
       long = length-set marks i b ∙ m.long;
       done = λ n k. go n k (same? i n);
       rest = λ n k. get_or-set_other marks i n b false (λ x. omega arith) ∙ m.rest n (omega arith);
@@ -111,7 +88,7 @@ module _ {g : Graph} {kinds words actions details : List ℕ} {s : State} (h : H
       go (no p) (no q) (no r) = let z : a ≡ 3 = omega arith in rw z
 
   pub eligible_is : (n : ℕ) → eligible_at g actions n ≡ eligible g s.plan n
-  unfolding eligible_at eligible_by eligible plan_of shape_of
+  unfolding eligible_at eligible plan_of shape_of
   eligible_is n =
       ap (λ (b : Bool). ltb n (size g) && (not (nofold (node_of g n).flags) && (not (labelled (node_of g n).flags) && b)))
       (sym (ap (λ (p : Map PlanAction). is_pure_by (node_of g n).class (p n)) h.plan ∙ by_action n (get_or actions n 0) (get_or details n 0) (node_of g n).class (h.shaped.listed n) refl))
@@ -120,22 +97,3 @@ module _ {g : Graph} {kinds words actions details : List ℕ} {s : State} (h : H
 pub eligible_within : (g : Graph) (p : Map PlanAction) (n : ℕ) → eligible g p n ≡ true → n < size g
 unfolding eligible
 eligible_within g p n e = ltb-true n (size g) (and_left (ltb n (size g)) _ e)
-
--- ---- the actions of nodes that go
-
-pub record Removing (marks : List Bool) (actions : List ℕ) (i : ℕ) (swept : List ℕ) : Type 0 where
-  pub long : length swept ≡ max_nodes
-  pub done : (n : ℕ) → n < i → get_or swept n 0 ≡ cond (get_or marks n false) 2 (get_or actions n 0)
-
-pub removing_start : (marks : List Bool) (actions : List ℕ) (k : ℕ) → k ≡ max_nodes → Removing marks actions 0 (replicate k 0)
-removing_start marks actions k e = record { long = length-replicate {A = ℕ} k 0 ∙ e; done = λ n l. absurd (omega arith) }
-
-pub removing_more : {marks : List Bool} {actions : List ℕ} {i : ℕ} {swept : List ℕ} {a : ℕ} → Removing marks actions i swept → i < max_nodes → a ≡ cond (get_or marks i false) 2 (get_or actions i 0) → Removing marks actions (i + 1) (set swept i a)
-removing_more {marks} {actions} {i} {swept} {a} m l e = record { long = length-set swept i a ∙ m.long; done = λ n k. go n k (same? i n) }
-  where
-    lower : (n : ℕ) → n < i + 1 → (i ≡ n → ⊥) → n < i
-    lower n k ne = omega arith
-
-    go : (n : ℕ) → n < i + 1 → Same i n → get_or (set swept i a) n 0 ≡ cond (get_or marks n false) 2 (get_or actions n 0)
-    go n k (inl s) = subst (λ (j : ℕ). get_or (set swept i a) j 0 ≡ cond (get_or marks j false) 2 (get_or actions j 0)) s.1 (get_or-set_same swept i a 0 (omega (arith, m.long)) ∙ e)
-    go n k (inr s) = get_or-set_other swept i n a 0 (λ x. eqb-false i n s (sym x)) ∙ m.done n (lower n k (eqb-false i n s))

@@ -52,7 +52,7 @@ module _ {eligible : List Bool} {degrees : List ℕ} {marks : List Bool} {order 
       omega (arith, marks_more marks n (omega (arith, q.marks_long)) unmarked, few_marks (set marks n true), q.many)
 
   -- its degree falls, and it stays
-  pub queued_same : (v : ℕ) → (eligible_in eligible n && eqb v 0) ≡ false → Queued eligible (set degrees n v) marks order tail
+  queued_same : (v : ℕ) → (eligible_in eligible n && eqb v 0) ≡ false → Queued eligible (set degrees n v) marks order tail
   queued_same v s =
       record {
         degrees_long = length-set degrees n v ∙ q.degrees_long;
@@ -115,25 +115,18 @@ module _ {eligible : List Bool} {degrees : List ℕ} {marks : List Bool} {order 
 
   -- ---- what `release` leaves
 
-  pub released_other : {degrees' : List ℕ} (v : ℕ) → v ≡ get_or degrees n 0 - 1 → degrees' ≡ set degrees n v → (v ≡ 0 → ⊥) → Released n eligible degrees order tail degrees' marks order tail
-  released_other v e s ne =
-      record {
-        degree = s ∙ ap (set degrees n) e;
-        queued = rw s (queued_same v (go (eligible_in eligible n)));
-        longer = longer_none;
-      }
+  pub kept_other : (v : ℕ) → (v ≡ 0 → ⊥) → Queued eligible (set degrees n v) marks order tail
+  kept_other v ne = queued_same v (go (eligible_in eligible n))
     where
       go : (b : Bool) → (b && eqb v 0) ≡ false
       go true = ne_eqb v 0 ne
       go false = refl
 
-  pub released_not : {degrees' : List ℕ} (v : ℕ) → v ≡ get_or degrees n 0 - 1 → degrees' ≡ set degrees n v → eligible_in eligible n ≡ false → Released n eligible degrees order tail degrees' marks order tail
-  released_not v e s a = record { degree = s ∙ ap (set degrees n) e; queued = rw s (queued_same v (rw a)); longer = longer_none }
+  pub kept_not : (v : ℕ) → eligible_in eligible n ≡ false → Queued eligible (set degrees n v) marks order tail
+  kept_not v a = queued_same v (rw a)
 
-  pub released_more : {degrees' : List ℕ} {marks' : List Bool} {order' : List ℕ} (v : ℕ) → v ≡ get_or degrees n 0 - 1 → degrees' ≡ set degrees n v → marks' ≡ set marks n true → order' ≡ set order tail n → eligible_in eligible n ≡ true → v ≡ 0 → Released n eligible degrees order tail degrees' marks' order' (tail + 1)
-  released_more v e s m o a z =
-      record {
-        degree = s ∙ ap (set degrees n) e;
-        queued = rw (s, m, o) (queued_more v a z);
-        longer = record { more = omega arith; kept = λ k l. rw o (take-set-le k order tail n l) };
-      }
+pub released_none : {n : ℕ} {degrees order : List ℕ} {tail : ℕ} → Released n degrees order tail (set degrees n (get_or degrees n 0 - 1)) order tail
+released_none = record { degree = refl; longer = longer_none }
+
+pub released_more : {n : ℕ} {degrees order : List ℕ} {tail : ℕ} → Released n degrees order tail (set degrees n (get_or degrees n 0 - 1)) (set order tail n) (tail + 1)
+released_more {n} {degrees} {order} {tail} = record { degree = refl; longer = record { more = omega arith; kept = λ k l. take-set-le k order tail n l } }

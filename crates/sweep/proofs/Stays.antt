@@ -2,16 +2,16 @@
 use mathlib.Core.Path.{◌≡◌, refl, sym, ap, ◌∙◌}
 use mathlib.Core.Bool.{Bool, true, false, cond}
 use mathlib.Core.List.{List, [], ◌∷◌, ◌++◌, append-nil}
-use Prim.Native.Nat.{ℕ, zero, suc, ◌+◌, ◌*◌, ◌/◌, ◌<◌, ◌≤◌}
+use Prim.Native.Nat.{ℕ, zero, suc, ◌+◌, ◌*◌, ◌<◌, ◌≤◌}
 use native.Mathlib.Omega.{arith}
 use native.Mathlib.Numerals.{add-one}
+use mir.Val.{bool_byte}
 use lib.ListN.{length, get_or, take, length-append, length-take}
 use lib.Seq.{take-suc, take-length}
 use Rattle.ir.specs.declared.Wire.{Wire}
 use Rattle.encoding.specs.Numbers.{Written}
 use Rattle.encoding.specs.Wires.{wire_bytes}
-use Rattle.records.specs.Access.{wires_of, no_wire}
-use Rattle.records.proofs.Runs.{wires_length}
+use Rattle.records.specs.Access.{no_wire}
 use Rattle.model.specs.Maps.{keep, up_to}
 use Rattle.model.specs.Answer.{each}
 use Rattle.model.proofs.Lists.{length_keep, count_length}
@@ -34,14 +34,16 @@ module _ (marks : List Bool) (ws : List Wire) where
   staying_more i l = ap (keep (stays_in marks)) (take-suc ws i no_wire l) ∙ keep_append (stays_in marks) (take i ws) (get_or ws i no_wire ∷ [])
 
   -- counted so far
-  pub counted_more : (i left w : ℕ) → i < length ws → left ≡ length (keep (stays_in marks) (take i ws)) → w ≡ length (staying_at marks ws i) → left + w ≡ length (keep (stays_in marks) (take (i + 1) ws))
-  counted_more i left w l e f = rw (add-one i) (omega (arith, ap length (staying_more i l), length-append (keep (stays_in marks) (take i ws)) (staying_at marks ws i)))
+  pub counted_more : (i : ℕ) (b : Bool) → i < length ws → b ≡ stays_in marks (get_or ws i no_wire) → length (keep (stays_in marks) (take i ws)) + bool_byte b ≡ length (keep (stays_in marks) (take (i + 1) ws))
+  unfolding staying_at
+  counted_more i b l e = rw (add-one i) (omega (arith, ap length (staying_more i l), length-append (keep (stays_in marks) (take i ws)) (staying_at marks ws i), go b e))
+    where
+      go : (b : Bool) → b ≡ stays_in marks (get_or ws i no_wire) → bool_byte b ≡ length (staying_at marks ws i)
+      go true e = rw (← e) refl
+      go false e = rw (← e) refl
 
-  pub counted_all : (i left : ℕ) → i ≡ length ws → left ≡ length (keep (stays_in marks) (take i ws)) → left ≡ length (keep (stays_in marks) ws)
-  counted_all i left e f = f ∙ ap (λ (xs : List Wire). length (keep (stays_in marks) xs)) (ap (λ (k : ℕ). take k ws) e ∙ take-length ws)
-
-  pub counted_few : (i left : ℕ) → left ≡ length (keep (stays_in marks) (take i ws)) → left ≤ i
-  counted_few i left e = omega (arith, length_keep (stays_in marks) (take i ws), count_length (stays_in marks) (take i ws), length-take i ws)
+  pub counted_few : (i : ℕ) → length (keep (stays_in marks) (take i ws)) ≤ i
+  counted_few i = omega (arith, length_keep (stays_in marks) (take i ws), count_length (stays_in marks) (take i ws), length-take i ws)
 
   -- their bytes, by the numbers of all
   staying_bytes : (k : ℕ) → k ≤ length ws → each (λ i. each wire_bytes (staying_at marks ws i)) (up_to k) ≡ each wire_bytes (keep (stays_in marks) (take k ws))
@@ -53,13 +55,11 @@ module _ (marks : List Bool) (ws : List Wire) where
       ∙ (sym (each_append wire_bytes (keep (stays_in marks) (take k ws)) (staying_at marks ws k))
       ∙ ap (each wire_bytes) (sym (staying_more k (omega arith)))))
 
-pub staying_each : (marks : List Bool) (wires : List ℕ) → each (λ i. each wire_bytes (staying_at marks (wires_of wires) i)) (up_to (length wires / 7)) ≡ each wire_bytes (keep (stays_in marks) (wires_of wires))
-staying_each marks wires =
-    ap (λ (k : ℕ). each (λ i. each wire_bytes (staying_at marks (wires_of wires) i)) (up_to k)) (sym (wires_length wires))
-    ∙ (staying_bytes marks (wires_of wires) (length (wires_of wires)) (omega arith) ∙ ap (λ (xs : List Wire). each wire_bytes (keep (stays_in marks) xs)) (take-length (wires_of wires)))
+  pub staying_each : each (λ i. each wire_bytes (staying_at marks ws i)) (up_to (length ws)) ≡ each wire_bytes (keep (stays_in marks) ws)
+  staying_each = staying_bytes (length ws) (omega arith) ∙ ap (λ (xs : List Wire). each wire_bytes (keep (stays_in marks) xs)) (take-length ws)
 
-pub staying_room : (marks : List Bool) (wires : List ℕ) (at size : ℕ) → at + 7 * length (keep (stays_in marks) (wires_of wires)) ≤ size → at + length (each (λ i. each wire_bytes (staying_at marks (wires_of wires) i)) (up_to (length wires / 7))) ≤ size
-staying_room marks wires at size h = rw (staying_each marks wires) (omega (arith, wires_size (keep (stays_in marks) (wires_of wires))))
+  pub staying_room : (at size : ℕ) → at + 7 * length (keep (stays_in marks) ws) ≤ size → at + length (each (λ i. each wire_bytes (staying_at marks ws i)) (up_to (length ws))) ≤ size
+  staying_room at size h = rw staying_each (omega (arith, wires_size (keep (stays_in marks) ws)))
 
 -- one wire
 module _ (marks : List Bool) (ws : List Wire) (i : ℕ) where

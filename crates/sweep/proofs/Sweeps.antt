@@ -53,19 +53,19 @@ feeds_left ws ns d e = keep_keep (λ w. not (member w.target.node_id ns)) (enter
         none true = refl
         none false = refl
 
-module _ {nodes : ℕ} {ws : List Wire} {eligible : List Bool} {degrees : List ℕ} {marks : List Bool} {order : List ℕ} {head tail : ℕ} (within : Within nodes eligible) (s : Sweeping nodes ws eligible degrees marks order head tail) where
+module _ {nodes : ℕ} {ws : List Wire} {eligible : List Bool} {degrees : List ℕ} {marks : List Bool} {order : List ℕ} {head tail : ℕ} (within : Within nodes eligible) (q : Queued eligible degrees marks order tail) (s : Sweeping nodes ws eligible degrees order head tail) where
   pub sweep_place : head < tail → head < max_nodes
-  sweep_place l = omega (arith, few_places s.queued)
+  sweep_place l = omega (arith, few_places q)
 
   module _ (front : head < tail) where
     marked : get_or marks (get_or order head 0) false ≡ true
-    marked = sym (s.queued.listed (get_or order head 0)) ∙ member_take order head tail front (omega (arith, few_places s.queued, s.queued.order_long))
+    marked = sym (q.listed (get_or order head 0)) ∙ member_take order head tail front (omega (arith, few_places q, q.order_long))
 
     pub sweep_node : get_or order head 0 < max_nodes
-    sweep_node = omega (arith, marked_below marks (get_or order head 0) marked, s.queued.marks_long)
+    sweep_node = omega (arith, marked_below marks (get_or order head 0) marked, q.marks_long)
 
     goes : (eligible_in eligible (get_or order head 0) && eqb (get_or degrees (get_or order head 0) 0) 0) ≡ true
-    goes = sym (s.queued.marked (get_or order head 0) sweep_node) ∙ marked
+    goes = sym (q.marked (get_or order head 0) sweep_node) ∙ marked
 
     is_eligible : eligible_in eligible (get_or order head 0) ≡ true
     is_eligible = and_left (eligible_in eligible (get_or order head 0)) _ goes
@@ -79,7 +79,7 @@ module _ {nodes : ℕ} {ws : List Wire} {eligible : List Bool} {degrees : List �
           there =
               ap (member (get_or order head 0)) (left_nodes s.removals)
               ∙ (member_keep (λ m. not (member m (take head order))) (get_or order head 0) (up_to nodes)
-              ∙ rw (s.queued.once head front, member_up_to (get_or order head 0) nodes below));
+              ∙ rw (q.once head front, member_up_to (get_or order head 0) nodes below));
           allowed = is_eligible;
           no_wire =
               count_none (leaves (get_or order head 0)) s.left.wires
@@ -90,7 +90,7 @@ module _ {nodes : ℕ} {ws : List Wire} {eligible : List Bool} {degrees : List �
     parts : (n : ℕ) → fed_by ws (get_or order head 0) n + leaving (keep (λ w. not (enters (get_or order head 0) w)) s.left.wires) n ≡ leaving s.left.wires n
     parts n =
         let e : keep (enters (get_or order head 0)) s.left.wires ≡ keep (enters (get_or order head 0)) ws =
-        ap (keep (enters (get_or order head 0))) (left_wires s.removals) ∙ feeds_left ws (take head order) (get_or order head 0) (s.queued.once head front) in
+        ap (keep (enters (get_or order head 0))) (left_wires s.removals) ∙ feeds_left ws (take head order) (get_or order head 0) (q.once head front) in
         omega (
           arith,
           count_parts (enters (get_or order head 0)) (leaves n) s.left.wires,
@@ -103,25 +103,24 @@ module _ {nodes : ℕ} {ws : List Wire} {eligible : List Bool} {degrees : List �
     pub sweep_enough : (n : ℕ) → n < nodes → fed_by ws (get_or order head 0) n ≤ get_or degrees n 0
     sweep_enough n l = omega (arith, parts n, s.degree n l)
 
-    pub sweep_more : {degrees' : List ℕ} {marks' : List Bool} {order' : List ℕ} {tail' : ℕ} → Fell nodes (fed_by ws (get_or order head 0)) eligible degrees order tail degrees' marks' order' tail' → Sweeping nodes ws eligible degrees' marks' order' (head + 1) tail'
+    pub sweep_more : {degrees' order' : List ℕ} {tail' : ℕ} → Fell nodes (fed_by ws (get_or order head 0)) degrees order tail degrees' order' tail' → Sweeping nodes ws eligible degrees' order' (head + 1) tail'
     unfolding remove
     sweep_more {order' = order'} f =
         record {
           left = remove s.left (get_or order head 0);
           removals = subst (λ (ns : List ℕ). Removals (eligible_in eligible) (unswept nodes ws) ns (remove s.left (get_or order head 0))) (sym taken) (removals_more (get_or order head 0) s.removals removable);
           degree = λ n l. omega (arith, f.degree n l, parts n, s.degree n l);
-          queued = f.queued;
           until = omega (arith, f.longer.more);
         }
       where
         taken : take (head + 1) order' ≡ take head order ++ (get_or order head 0 ∷ [])
-        taken = f.longer.kept (head + 1) (omega arith) ∙ (ap (λ (k : ℕ). take k order) (add-one head) ∙ take-suc order head 0 (omega (arith, few_places s.queued, s.queued.order_long)))
+        taken = f.longer.kept (head + 1) (omega arith) ∙ (ap (λ (k : ℕ). take k order) (add-one head) ∙ take-suc order head 0 (omega (arith, few_places q, q.order_long)))
 
   pub sweep_ends : nodes ≤ max_nodes → tail ≤ head → Marked nodes ws eligible marks
   sweep_ends few l =
       record {
-        marks_long = s.queued.marks_long;
-        marked = λ n. sym (s.queued.listed n) ∙ (ap (λ (k : ℕ). member n (take k order)) same ∙ run_taken (eligible_in eligible) ws nodes within run n);
+        marks_long = q.marks_long;
+        marked = λ n. sym (q.listed n) ∙ (ap (λ (k : ℕ). member n (take k order)) same ∙ run_taken (eligible_in eligible) ws nodes within run n);
       }
     where
       same : tail ≡ head
@@ -132,7 +131,7 @@ module _ {nodes : ℕ} {ws : List Wire} {eligible : List Bool} {degrees : List �
           let b : n < nodes = within n r.allowed in
           let z : get_or degrees n 0 ≡ 0 = s.degree n b ∙ (length_keep (leaves n) s.left.wires ∙ none_count (leaves n) s.left.wires r.no_wire) in
           let m : member n (take head order) ≡ true =
-          ap (λ (k : ℕ). member n (take k order)) (sym same) ∙ (s.queued.listed n ∙ (s.queued.marked n (omega arith) ∙ both (eligible_in eligible n) _ r.allowed (eq-eqb (get_or degrees n 0) 0 z))) in
+          ap (λ (k : ℕ). member n (take k order)) (sym same) ∙ (q.listed n ∙ (q.marked n (omega arith) ∙ both (eligible_in eligible n) _ r.allowed (eq-eqb (get_or degrees n 0) 0 z))) in
           true≢false (sym (and_left _ _ (sym (member_keep (λ m. not (member m (take head order))) n (up_to nodes)) ∙ (ap (member n) (sym (left_nodes s.removals)) ∙ r.there))) ∙ ap not m)
 
       run : Run (eligible_in eligible) nodes ws
@@ -162,12 +161,11 @@ queued_start k {eligible} {degrees} e long some_wire =
     none true q = q
     none false q = refl
 
-pub sweep_start : {nodes : ℕ} {ws : List Wire} {eligible : List Bool} {degrees₀ degrees : List ℕ} {marks : List Bool} {order₀ order : List ℕ} {tail : ℕ} → nodes ≤ max_nodes → ((n : ℕ) → n < max_nodes → get_or degrees₀ n 0 ≡ 1 + leaving ws n) → Fell nodes (λ n. 1) eligible degrees₀ order₀ 0 degrees marks order tail → Sweeping nodes ws eligible degrees marks order 0 tail
+pub sweep_start : {nodes : ℕ} {ws : List Wire} {eligible : List Bool} {degrees₀ degrees order₀ order : List ℕ} {tail₀ tail : ℕ} → nodes ≤ max_nodes → ((n : ℕ) → n < max_nodes → get_or degrees₀ n 0 ≡ 1 + leaving ws n) → Fell nodes (λ n. 1) degrees₀ order₀ tail₀ degrees order tail → Sweeping nodes ws eligible degrees order 0 tail
 sweep_start {nodes} {ws} few counts f =
     record {
       left = unswept nodes ws;
       removals = stop;
       degree = λ n l. omega (arith, f.degree n l, counts n (omega arith));
-      queued = f.queued;
       until = omega arith;
     }

@@ -15,7 +15,7 @@ use Rattle.sweep.specs.Removals.{Left, Removals, unswept, is_taken}
 
 -- ---- the eligible nodes, by the actions: 0 is no plan, 1 a literal
 
-unfoldable pub eligible_by : ℕ → ℕ → ℕ → Bool
+abbrev pub eligible_by : ℕ → ℕ → ℕ → Bool
 eligible_by class flags action = not (nofold flags) && (not (labelled flags) && cond (eqb action 0) (is_pure class) (eqb action 1))
 
 unfoldable pub eligible_at : Graph → List ℕ → ℕ → Bool
@@ -50,15 +50,13 @@ pub record Longer (order : List ℕ) (tail : ℕ) (order' : List ℕ) (tail' : �
   pub kept : (k : ℕ) → k ≤ tail → take k order' ≡ take k order
 
 -- one wire less leaves node n
-pub record Released (n : ℕ) (eligible : List Bool) (degrees : List ℕ) (order : List ℕ) (tail : ℕ) (degrees' : List ℕ) (marks' : List Bool) (order' : List ℕ) (tail' : ℕ) : Type 0 where
+pub record Released (n : ℕ) (degrees order : List ℕ) (tail : ℕ) (degrees' order' : List ℕ) (tail' : ℕ) : Type 0 where
   pub degree : degrees' ≡ set degrees n (get_or degrees n 0 - 1)
-  pub queued : Queued eligible degrees' marks' order' tail'
   pub longer : Longer order tail order' tail'
 
 -- each node's degree fell by so much
-pub record Fell (nodes : ℕ) (by : ℕ → ℕ) (eligible : List Bool) (degrees : List ℕ) (order : List ℕ) (tail : ℕ) (degrees' : List ℕ) (marks' : List Bool) (order' : List ℕ) (tail' : ℕ) : Type 0 where
+pub record Fell (nodes : ℕ) (by : ℕ → ℕ) (degrees order : List ℕ) (tail : ℕ) (degrees' order' : List ℕ) (tail' : ℕ) : Type 0 where
   pub degree : (n : ℕ) → n < nodes → get_or degrees' n 0 + by n ≡ get_or degrees n 0
-  pub queued : Queued eligible degrees' marks' order' tail'
   pub longer : Longer order tail order' tail'
 
 -- how many wires node n has into node d
@@ -66,11 +64,10 @@ abbrev pub fed_by : List Wire → ℕ → ℕ → ℕ
 fed_by ws d n = leaving (keep (enters d) ws) n
 
 -- the nodes of the first `head` places were removed
-pub record Sweeping (nodes : ℕ) (ws : List Wire) (eligible : List Bool) (degrees : List ℕ) (marks : List Bool) (order : List ℕ) (head tail : ℕ) : Type 0 where
+pub record Sweeping (nodes : ℕ) (ws : List Wire) (eligible : List Bool) (degrees order : List ℕ) (head tail : ℕ) : Type 0 where
   pub left : Left
   pub removals : Removals (eligible_in eligible) (unswept nodes ws) (take head order) left
   pub degree : (n : ℕ) → n < nodes → get_or degrees n 0 ≡ leaving left.wires n
-  pub queued : Queued eligible degrees marks order tail
   pub until : head ≤ tail
 
 -- no node past the last is eligible

@@ -1,6 +1,5 @@
 -- Document 01, "What feeds nothing": the answer with the stage.
-use Rattle.std.specs.Prelude.{ℕ, Bool, true, false, cond, List, ◌++◌, eqb}
-use Rattle.std.proofs.Math.Option.{Option}
+use Rattle.std.specs.Prelude.{ℕ, Bool, true, false, cond, List, ◌++◌, eqb, Option}
 use Rattle.ir.specs.declared.Wire.{Wire}
 use Rattle.encoding.specs.Values.{head_bytes}
 use Rattle.encoding.specs.Wires.{wire_bytes}

@@ -4,7 +4,7 @@ ghost use Rattle.ir.specs.Limits.{max_nodes};
 ghost use Rattle.sweep.specs.Queue.{taken_action};
 
 use ir::limit;
-use state::{KEPT, SHORT_CIRCUIT};
+use state::SHORT_CIRCUIT;
 
 // The action of a node that is taken is a planned Select's: both have the same fate.
 fn action_of(taken: bool, action: u8) -> u8
@@ -21,10 +21,7 @@ pub fn remove(
 )
     ensures { (n : ℕ) → n < max_nodes → get_or swept.new n 0 ≡ cond (get_or taken.now n false) taken_action (get_or actions.now n 0) }
 {
-    *swept = [KEPT; limit::NODES];
-    let mut n = 0;
-    while n < limit::NODES {
+    for n in 0..limit::NODES {
         swept[n] = action_of(taken[n], actions[n]);
-        n += 1;
     }
 }

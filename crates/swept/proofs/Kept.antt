@@ -1,7 +1,7 @@
 -- What is asked of the fold with the stage beyond the demands on every entry.
+use Rattle.std.specs.Prelude.{Option, None, Some}
 use mathlib.Core.Path.{◌≡◌, sym, ap, ap₂, ◌∙◌, fun_ext}
 use mathlib.Core.Bool.{Bool, true, false, not}
-use mathlib.Core.Option.{Option, none, some}
 use mathlib.Core.List.{List, [], ◌∷◌, ◌++◌}
 use Prim.Native.Nat.{ℕ, zero, suc, ◌≤◌}
 use native.Mathlib.Omega.{arith}
@@ -32,10 +32,10 @@ use Rattle.swept.specs.Demands.{RunOf, run_bytes, AnyOrderOf, AnyRun, CleanLeft}
 fate_shorter : (b : Bool) (i : ℕ) (p : Option PlanAction) → length (swept_fate b i p) ≤ length (fate_bytes i p)
 unfolding swept_fate fate_bytes bytes_of
 fate_shorter false i p = omega arith
-fate_shorter true i none = omega arith
-fate_shorter true i (some (BecomeLiteral v)) = omega arith
-fate_shorter true i (some (ShortCircuit s)) = omega arith
-fate_shorter true i (some (Truncate ts)) = omega arith
+fate_shorter true i None = omega arith
+fate_shorter true i (Some (BecomeLiteral v)) = omega arith
+fate_shorter true i (Some (ShortCircuit s)) = omega arith
+fate_shorter true i (Some (Truncate ts)) = omega arith
 
 each_shorter : (f h : ℕ → List ℕ) → ((i : ℕ) → length (f i) ≤ length (h i)) → (n : ℕ) → length (each f (up_to n)) ≤ length (each h (up_to n))
 unfolding up_to each

@@ -1,7 +1,7 @@
 -- From each stage to the entry's result and buffer.
+use Rattle.std.specs.Prelude.{Option, Ok, Err}
 use mathlib.Core.Path.{◌≡◌, refl, sym, ap, ap₂, ◌∙◌, subst, fun_ext}
 use mathlib.Core.Bool.{Bool, true, false, cond, not}
-use mathlib.Core.Option.{Option}
 use mathlib.Core.List.{List, ◌++◌}
 use Prim.Native.Nat.{ℕ, zero, suc, ◌+◌, ◌-◌, ◌*◌, ◌<◌, ◌≤◌}
 use native.Mathlib.Nat.{sub-zero}
@@ -18,6 +18,7 @@ use Rattle.encoding.proofs.Splices.{written_more}
 use Rattle.graph.specs.Graph.{Graph}
 use Rattle.graph.specs.Decode.{accepted, decode, graph_of}
 use Rattle.graph.specs.declared.Counts.{Counts}
+use Rattle.graph.specs.declared.Refusal.{Refusal}
 use Rattle.records.specs.Access.{wires_of, Bounded}
 use Rattle.records.proofs.Laid.{few_nodes}
 use Rattle.model.specs.Maps.{Map, up_to, keep}
@@ -31,10 +32,8 @@ use Rattle.model.proofs.Each.{each_up}
 use Rattle.answer.specs.Nodes.{known_records, fate_by, fate_records}
 use Rattle.propagation.specs.Propagation.{Settled}
 use Rattle.propagation.proofs.Accepted.{accepted_graph, nodes_are}
-use Rattle.folding.specs.declared.Outcome.{Outcome}
 use Rattle.folding.specs.Entry.{Answers}
-use Rattle.folding.proofs.Answers.{fate_same, bytes_in, bytes_size}
-use Rattle.rewritten.specs.declared.Rewritten.{Rewritten}
+use Rattle.folding.proofs.Outcomes.{fate_same, bytes_in, bytes_size}
 use Rattle.rewritten.specs.Rewritten.{RewritesBy}
 use Rattle.rewritten.proofs.Stages.{Fronts, fronts}
 use Rattle.rewritten.proofs.Entries as entries
@@ -63,10 +62,10 @@ module _ {input : List ℕ} {c : Counts} {kinds words swept wires : List ℕ} {m
   abbrev g : Graph
   g = graph_of input
 
-  abbrev E : Emitted input c kinds words S.actions wires pops
+  abbrev E : Emitted input c kinds words S.actions S.details wires pops
   E = S.emitted
 
-  abbrev W : Settled input (literals g) c kinds words S.actions E.details pops
+  abbrev W : Settled input (literals g) c kinds words S.actions S.details pops
   W = E.worked
 
   abbrev left : List Wire
@@ -82,7 +81,7 @@ module _ {input : List ℕ} {c : Counts} {kinds words swept wires : List ℕ} {m
   fates_same : (i : ℕ) → i < size g → swept_fate (taken i) i (plan_of g i) ≡ fate_by i (get_or swept i 0) ((fold_of g).state.known i)
   fates_same i l =
       swept_fate_lem (taken i) i (get_or S.actions i 0) (plan_of g i) ((fold_of g).state.known i)
-      (ap (λ (p : Map PlanAction). fate_bytes i (p i)) W.finished.holds.plan ∙ fate_same g.wires (fold_of g).state.known S.actions E.details i (W.finished.holds.shaped.listed i))
+      (ap (λ (p : Map PlanAction). fate_bytes i (p i)) W.finished.holds.plan ∙ fate_same g.wires (fold_of g).state.known S.actions S.details i (W.finished.holds.shaped.listed i))
       ∙ ap (λ (a : ℕ). fate_by i a ((fold_of g).state.known i)) (sym (S.removes.actions_are i (omega (arith, few)) ∙ ap (λ (b : Bool). cond b 2 (get_or S.actions i 0)) (S.removes.marked i)))
 
   wires_same_left : wires_left taken (wires_of wires) ≡ left
@@ -113,43 +112,38 @@ module _ {input : List ℕ} {c : Counts} {kinds words swept wires : List ℕ} {m
     fit room p q = leb-true (length (known_records kinds words n) + length (fate_records kinds words swept n) + 7 * count) room (sym p ∙ q)
 
     -- question 10: too long an answer
-    pub refuse_long : {before : List ℕ} → leb (length (known_records kinds words n) + length (fate_records kinds words swept n) + 7 * count) (length before) ≡ false → Answers swept_outcome input before before (Outcome.Refused 10 0)
+    pub refuse_long : {before : List ℕ} → leb (length (known_records kinds words n) + length (fate_records kinds words swept n) + 7 * count) (length before) ≡ false → Answers swept_outcome input before before (Err Refusal.NoSpace)
     refuse_long {before} q = entries.refuse_long swept_bytes read E.rewrote (omega (arith, sizes, leb-false (length (known_records kinds words n) + length (fate_records kinds words swept n) + 7 * count) (length before) q))
 
     -- the answer
     pub folded : {before two three : List ℕ} {b r : ℕ} → length (known_records kinds words n) + length (fate_records kinds words swept n) + 7 * count ≤ length before
         → Written (known_records kinds words n ++ fate_records kinds words swept n) before two 0 b → Written (each wire_bytes left) two three b r
-        → Answers swept_outcome input before three (Outcome.Folded r pops)
+        → Answers swept_outcome input before three (Ok (record { length = r; pops = pops }))
     folded {before} {two} {three} {b} {r} m y z =
         let w : Written (bytes_in (size g) kinds words swept left) before three 0 r = written_more (rw e at y) (omega (arith, m, sizes, ap length answer_same)) z in
         entries.answer_written swept_bytes read E.rewrote (omega (arith, m, sizes)) (subst (λ (l : List ℕ). Written l before three 0 r) (sym answer_same) w) W.finished.pops_are
 
 -- ---- the rewritten wires at the front of the buffer
 
-module _ {input : List ℕ} {c : Counts} {kinds words actions details : List ℕ} {pops : ℕ} (W : Settled input (literals (graph_of input)) c kinds words actions details pops) {before after : List ℕ} {count : ℕ} (R : RewritesBy (graph_of input) (plan_of (graph_of input)) before after (Rewritten.Wires count)) (long : length before ≡ 7 * max_wires) where
+module _ {input : List ℕ} {c : Counts} {kinds words actions details : List ℕ} {pops : ℕ} (W : Settled input (literals (graph_of input)) c kinds words actions details pops) {before after : List ℕ} {count : ℕ} (R : RewritesBy (graph_of input) (plan_of (graph_of input)) before after (Ok count)) (long : length before ≡ 7 * max_wires) where
   F : Fronts (graph_of input) (plan_of (graph_of input)) after count
   F = fronts W R long
 
   pub front_inside : 7 * count ≤ length after
   front_inside = F.inside
 
-  pub emitted_at : {front : List ℕ} → front ≡ take (7 * count) after → Emitted input c kinds words actions front pops
+  pub emitted_at : {front : List ℕ} → front ≡ take (7 * count) after → Emitted input c kinds words actions details front pops
   emitted_at {front} e =
       let z : wires_of front ≡ F.wires = ap wires_of e ∙ F.read in
       record {
-        details = details;
         worked = W;
         rewrote = F.are ∙ ap Outcomes.wires (sym z);
         bounded = subst (λ (us : List Wire). Bounded us (size (graph_of input))) (sym z) F.bounded;
       }
 
--- as the code takes it
-pub emitted_front : {input : List ℕ} {c : Counts} {kinds words actions : List ℕ} {pops : ℕ} (buffer : List ℕ) (k : ℕ) → Emitted input c kinds words actions (take k buffer) pops → Emitted input c kinds words actions (take (k - 0) buffer) pops
-emitted_front {input} {c} {kinds} {words} {actions} {pops} buffer k E = subst (λ (m : ℕ). Emitted input c kinds words actions (take m buffer) pops) (sym (sub-zero k)) E
-
 -- ---- the nodes that go
 
-module _ {input : List ℕ} {c : Counts} {kinds words actions wires : List ℕ} {pops : ℕ} (E : Emitted input c kinds words actions wires pops) where
+module _ {input : List ℕ} {c : Counts} {kinds words actions details wires : List ℕ} {pops : ℕ} (E : Emitted input c kinds words actions details wires pops) where
   nodes_of : c.nodes ≡ size (graph_of input)
   nodes_of = nodes_are input c E.worked.accepts
 

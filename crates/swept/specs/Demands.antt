@@ -1,6 +1,5 @@
 -- What is asked of the fold with the stage beyond the demands on every entry (folding/specs/Demands), each of the graph of an input.
-use Rattle.std.specs.Prelude.{ℕ, ◌≡◌, false, List}
-use Rattle.std.proofs.Math.Option.{some}
+use Rattle.std.specs.Prelude.{ℕ, ◌≡◌, false, List, Some}
 use Rattle.ir.specs.declared.Wire.{Wire}
 use Rattle.graph.specs.Graph.{Graph, member}
 use Rattle.model.specs.Maps.{All}
@@ -25,17 +24,17 @@ pub record SameTaken (g : Graph) (ws : List Wire) : Type 0 where
   pub bytes : (r : RunOf g ws) → swept_bytes g (fold_of g).state ws ≡ run_bytes g ws r
 
 abbrev pub AnyOrderOf : Graph → Type 0
-AnyOrderOf g = (ws : List Wire) → rewrite_wires (plan_of g) (size g) g.wires ≡ some ws → SameTaken g ws
+AnyOrderOf g = (ws : List Wire) → rewrite_wires (plan_of g) (size g) g.wires ≡ Some ws → SameTaken g ws
 
 -- there are removals that go on until none is left, and these bytes are what is written after any of them
 pub record AnyRun (g : Graph) (written : List ℕ) : Type 0 where
   pub wires : List Wire
-  pub rewritten : rewrite_wires (plan_of g) (size g) g.wires ≡ some wires
+  pub rewritten : rewrite_wires (plan_of g) (size g) g.wires ≡ Some wires
   pub run : RunOf g wires
   pub is : (r : RunOf g wires) → written ≡ run_bytes g wires r
 
 -- no wire that is left touches a node that is removed or taken, or enters one that was made literal
 abbrev pub CleanLeft : Graph → Type 0
 CleanLeft g =
-    (ws : List Wire) → rewrite_wires (plan_of g) (size g) g.wires ≡ some ws →
+    (ws : List Wire) → rewrite_wires (plan_of g) (size g) g.wires ≡ Some ws →
     All (λ w. Clean (plan_of g) w × (taken_of g (plan_of g) ws w.source.node_id ≡ false) × (taken_of g (plan_of g) ws w.target.node_id ≡ false)) (wires_left (taken_of g (plan_of g) ws) ws)

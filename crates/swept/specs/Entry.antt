@@ -19,8 +19,7 @@ swept_outcome input room = Outcomes.outcome_by swept_bytes input room
 -- ---- between the stages
 
 -- the arrays hold what the worklist of the input's graph leaves, and these records are those of its rewritten wires
-pub record Emitted (input : List ℕ) (c : Counts) (kinds words actions wires : List ℕ) (pops : ℕ) : Type 0 where
-  pub details : List ℕ
+pub record Emitted (input : List ℕ) (c : Counts) (kinds words actions details wires : List ℕ) (pops : ℕ) : Type 0 where
   pub worked : Settled input (literals (graph_of input)) c kinds words actions details pops
   pub rewrote : Outcomes.rewritten (graph_of input) (plan_of (graph_of input)) ≡ Outcomes.wires (wires_of wires)
   pub bounded : Bounded (wires_of wires) (size (graph_of input))
@@ -29,8 +28,9 @@ pub record Emitted (input : List ℕ) (c : Counts) (kinds words actions wires : 
 pub record Sweepable (input : List ℕ) (c : Counts) (actions wires : List ℕ) : Type 0 where
   pub kinds : List ℕ
   pub words : List ℕ
+  pub details : List ℕ
   pub pops : ℕ
-  pub emitted : Emitted input c kinds words actions wires pops
+  pub emitted : Emitted input c kinds words actions details wires pops
 
 -- the nodes taken are marked, and have their action in `swept`
 pub record Removes (input actions wires swept : List ℕ) (taken : List Bool) : Type 0 where
@@ -40,5 +40,6 @@ pub record Removes (input actions wires swept : List ℕ) (taken : List Bool) : 
 -- the arrays and records are those of a graph's fold, but that `swept` has the actions after the sweep, and the nodes taken are marked
 pub record Swept (input : List ℕ) (c : Counts) (kinds words swept wires : List ℕ) (taken : List Bool) (pops : ℕ) : Type 0 where
   pub actions : List ℕ
-  pub emitted : Emitted input c kinds words actions wires pops
+  pub details : List ℕ
+  pub emitted : Emitted input c kinds words actions details wires pops
   pub removes : Removes input actions wires swept taken

@@ -6,172 +6,130 @@ ghost use Rattle.std.proofs.Math.ListN as ListN;
 ghost use Rattle.ir.specs.Limits.{max_wires, max_answer};
 ghost use Rattle.graph.specs.Decode.{accepted, decode, graph_of};
 ghost use Rattle.graph.specs.Index.{Indexed};
-ghost use Rattle.records.specs.Access.{Accepts};
 ghost use Rattle.model.specs.Offer.{literals};
 ghost use Rattle.model.specs.Worklist.{after, Waiting};
 ghost use Rattle.model.specs.Outcome.{numbers_of, written};
 ghost use Rattle.propagation.specs.Propagation.{Settled};
-ghost use Rattle.folding.specs.Entry.{case_of, numbers, Answers};
+ghost use Rattle.folding.specs.Entry.{IsCase, numbers, Answers};
 ghost use Rattle.folding.specs.Demands.{RefusalsBy, EndlessAt, Accepted, OrderFree, AnswerBy, PopsOf, FinitePlan, BranchesUnknown, TooManyWires};
 ghost use Rattle.sweep.specs.Swept.{swept_bytes};
 ghost use Rattle.swept.specs.Entry.{swept_outcome, Emitted, Sweepable, Removes, Swept};
 ghost use Rattle.swept.specs.Demands.{AnyOrderOf, AnyRun, CleanLeft};
 
 use encoding::wires as wire_records;
-use folding::Outcome;
-use graph::{Counts, Decoded, SLOTS, refusals};
+use folding::{Folded, Outcome};
+use graph::{Refusal, SLOTS};
 use ir::limit;
-use rewritten::{Rewritten, WIRE_BYTES};
-use state::WORDS;
-
-// The number of the refusal where the buffer does not hold the answer.
-const NO_SPACE: u8 = 10;
+use records::access::{Records, Wires};
+use rewritten::WIRE_BYTES;
+use state::{Known, Plan};
 
 // Marks the nodes that are taken, and gives them the action of those that are removed.
 pub fn sweep_graph(
-    input: &[u8],
-    counts: Counts,
+    records: &Records,
     actions: &[u8; limit::NODES],
-    wires: &[u8],
+    wires: &Wires,
     taken: &mut [bool; limit::NODES],
     swept: &mut [u8; limit::NODES],
 )
-    requires { Sweepable input.now counts actions.now wires.now }
-    ensures { Removes input.now actions.now wires.now swept.new taken.new }
+    requires { Sweepable records.now.input.now records.now.counts actions.now wires.now.records.now × (wires.now.nodes ≡ records.now.counts.nodes) }
+    ensures { Removes records.now.input.now actions.now wires.now.records.now swept.new taken.new }
 {
-    let nodes = counts.nodes;
     let mut eligible = [false; limit::NODES];
-    sweep::eligible::mark(input, nodes, actions, &mut eligible);
-    sweep::sweep_dead_pure(wires, nodes, &eligible, taken);
+    sweep::eligible::mark(records, actions, &mut eligible);
+    sweep::sweep_dead_pure(wires, &eligible, taken);
     sweep::fates::remove(taken, actions, swept);
 }
 
 // Question 10 of the answer, and the answer.
 fn write_swept(
-    input: &[u8],
-    counts: Counts,
-    kinds: &[u8; limit::NODES],
-    words: &[u64; WORDS],
+    records: &Records,
+    known: &Known,
     swept: &[u8; limit::NODES],
-    wires: &[u8],
+    wires: &Wires,
     taken: &[bool; limit::NODES],
     pops: usize,
     out: &mut [u8],
 ) -> Outcome
-    requires { Swept input.now counts kinds.now words.now swept.now wires.now taken.now pops }
-    ensures { Answers swept_outcome input.now out.old out.new result }
+    requires { Swept records.now.input.now records.now.counts known.now.kinds known.now.words swept.now wires.now.records.now taken.now pops }
+    ensures { Answers swept_outcome records.now.input.now out.old out.new result }
 {
-    let nodes = counts.nodes;
-    let left = sweep::wires::count(wires, nodes, taken);
-    if !folding::holds(kinds, swept, nodes, left, out.len()) {
-        return Outcome::Refused {
-            number: NO_SPACE,
-            place: 0,
-        };
+    let nodes = records.counts.nodes;
+    let left = sweep::wires::count(wires, taken);
+    if !folding::holds(known, swept, nodes, left, out.len()) {
+        return Err(Refusal::NoSpace);
     }
-    let past = answer::write_nodes(kinds, words, swept, nodes, out);
-    let length = sweep::wires::write(wires, nodes, taken, out, past);
-    Outcome::Folded { length, pops }
+    let past = answer::write_nodes(known, swept, nodes, out);
+    let length = sweep::wires::write(wires, taken, out, past);
+    Ok(Folded { length, pops })
 }
 
 // The answer of a graph whose `count` rewritten wires stand at the front of the buffer.
 fn answer_swept(
-    input: &[u8],
-    counts: Counts,
-    kinds: &[u8; limit::NODES],
-    words: &[u64; WORDS],
-    actions: &[u8; limit::NODES],
+    records: &Records,
+    known: &Known,
+    plan: &Plan,
     buffer: &[u8],
     count: usize,
     pops: usize,
     out: &mut [u8],
 ) -> Outcome
-    requires { Emitted input.now counts kinds.now words.now actions.now (take (7 * count) buffer.now) pops × (7 * count ≤ length buffer.now) }
-    ensures { Answers swept_outcome input.now out.old out.new result }
+    requires { Emitted records.now.input.now records.now.counts known.now.kinds known.now.words plan.now.actions plan.now.details (take (7 * count) buffer.now) pops × (7 * count ≤ length buffer.now) }
+    ensures { Answers swept_outcome records.now.input.now out.old out.new result }
 {
-    let end = wire_records::SIZE * count;
-    let wires = &buffer[0..end];
+    let wires = Wires {
+        records: &buffer[..wire_records::SIZE * count],
+        nodes: records.counts.nodes,
+    };
     let mut taken = [false; limit::NODES];
     let mut swept = [0u8; limit::NODES];
-    sweep_graph(input, counts, actions, wires, &mut taken, &mut swept);
-    write_swept(
-        input, counts, kinds, words, &swept, wires, &taken, pops, out,
-    )
+    sweep_graph(records, &plan.actions, &wires, &mut taken, &mut swept);
+    write_swept(records, known, &swept, &wires, &taken, pops, out)
 }
 
 // Questions 9 and 10 of the rewritten wires, and the answer.
 fn rewrite_graph(
-    input: &[u8],
-    counts: Counts,
-    kinds: &[u8; limit::NODES],
-    words: &[u64; WORDS],
-    actions: &[u8; limit::NODES],
-    details: &[u16; limit::NODES],
+    records: &Records,
+    known: &Known,
+    plan: &Plan,
     pops: usize,
     buffer: &mut [u8; WIRE_BYTES],
     out: &mut [u8],
 ) -> Outcome
-    requires { Settled input.now (literals (graph_of input.now)) counts kinds.now words.now actions.now details.now pops × (length buffer.old ≡ 7 * max_wires) }
-    ensures { Answers swept_outcome input.now out.old out.new result }
+    requires { Settled records.now.input.now (literals (graph_of records.now.input.now)) records.now.counts known.now.kinds known.now.words plan.now.actions plan.now.details pops × (length buffer.old ≡ 7 * max_wires) }
+    ensures { Answers swept_outcome records.now.input.now out.old out.new result }
 {
-    match rewritten::rewrite_graph(input, counts, actions, details, buffer) {
-        Rewritten::Wires { count } => answer_swept(
-            input, counts, kinds, words, actions, buffer, count, pops, out,
-        ),
-        Rewritten::Refused { number, place } => Outcome::Refused { number, place },
+    match rewritten::rewrite_graph(records, plan, buffer) {
+        Ok(count) => answer_swept(records, known, plan, buffer, count, pops, out),
+        Err(refusal) => Err(refusal),
     }
 }
 
 // The fold of an accepted input, whose properties the table indexes.
-fn fold_graph(input: &[u8], counts: Counts, table: &[u16; SLOTS], out: &mut [u8]) -> Outcome
-    requires { Accepts input.now counts × Indexed (graph_of input.now).properties input.now table.now }
-    ensures { Answers swept_outcome input.now out.old out.new result }
+fn fold_graph(records: &Records, table: &[u16; SLOTS], out: &mut [u8]) -> Outcome
+    requires { Indexed (graph_of records.now.input.now).properties records.now.input.now table.now }
+    ensures { Answers swept_outcome records.now.input.now out.old out.new result }
 {
     let own = [resolve::SET_NOTHING; limit::NODES];
-    let mut kinds = [0u8; limit::NODES];
-    let mut words = [0u64; WORDS];
-    let mut actions = [0u8; limit::NODES];
-    let mut details = [0u16; limit::NODES];
-    let pops = propagation::propagate_graph(
-        input,
-        counts,
-        table,
-        &own,
-        &mut kinds,
-        &mut words,
-        &mut actions,
-        &mut details,
-    );
+    let mut known = Known::new();
+    let mut plan = Plan::new();
+    let pops = propagation::propagate_graph(records, table, &own, &mut known, &mut plan);
     let mut buffer = [0u8; WIRE_BYTES];
-    rewrite_graph(
-        input,
-        counts,
-        &kinds,
-        &words,
-        &actions,
-        &details,
-        pops,
-        &mut buffer,
-        out,
-    )
+    rewrite_graph(records, &known, &plan, pops, &mut buffer, out)
 }
 
 fn fold_input(input: &[u8], out: &mut [u8]) -> Outcome
     ensures { Answers swept_outcome input.now out.old out.new result }
 {
     let mut table = [0u16; SLOTS];
-    match records::decode(input, &mut table) {
-        Decoded::Accepted(counts) => fold_graph(input, counts, &table, out),
-        Decoded::Refused(refusal) => Outcome::Refused {
-            number: refusals::number_of(refusal),
-            place: refusals::place_of(refusal),
-        },
-    }
+    let counts = records::decode(input, &mut table)?;
+    let records = Records { input, counts };
+    fold_graph(&records, &table, out)
 }
 
 // Folds the graph that the input says, and takes what feeds nothing. The answer is written into `out`; a refusal leaves it as it was.
 pub fn fold_swept(input: &[u8], out: &mut [u8]) -> Outcome
-    ensures result { result ≡ case_of (swept_outcome input.now (length out.old)) }
+    ensures result { IsCase (swept_outcome input.now (length out.old)) result }
     ensures numbers { numbers result ≡ numbers_of (swept_outcome input.now (length out.old)) }
     ensures buffer { out.new ≡ written (swept_outcome input.now (length out.old)) out.old }
     ensures untouched { 1 ≤ (numbers result).number → out.new ≡ out.old }
@@ -223,21 +181,5 @@ pub fn mezburiko_fold_swept(
     ensures enough { max_answer ≤ ListN.length out.old → result ≡ 10 → TooManyWires (graph_of input.now) }
     ensures waiting { (k : ℕ) → Waiting (graph_of input.now) (after (literals (graph_of input.now)) (graph_of input.now) k) }
 {
-    match fold_swept(input, out) {
-        Outcome::Folded {
-            length: bytes,
-            pops: turns,
-        } => {
-            *place = 0;
-            *length = bytes;
-            *pops = turns;
-            0
-        }
-        Outcome::Refused { number, place: at } => {
-            *place = at;
-            *length = 0;
-            *pops = 0;
-            number
-        }
-    }
+    folding::in_numbers(fold_swept(input, out), place, length, pops)
 }

@@ -1,6 +1,5 @@
 -- Document 01, "`covers` is membership of the exact row", and "0B annihilator: .. 12 (a false settles it) or 13 (a true settles it)".
-use Rattle.std.specs.Prelude.{ℕ, ◌+◌, ◌-◌, ◌*◌, ◌/◌, ◌%◌, ◌^◌, ◌<◌, ◌≡◌, ◌↔◌, Bool, true, false, cond, ◌&&◌, ◌||◌, List, [], ◌∷◌, eqb, ltb, length, get_or}
-use Rattle.std.proofs.Math.Option.{Option, none, some}
+use Rattle.std.specs.Prelude.{ℕ, ◌+◌, ◌-◌, ◌*◌, ◌/◌, ◌%◌, ◌^◌, ◌<◌, ◌≡◌, ◌↔◌, Bool, true, false, cond, ◌&&◌, ◌||◌, List, [], ◌∷◌, eqb, ltb, length, get_or, Option, None, Some}
 use Rattle.ir.specs.Classes.{class_count, is_class}
 use Rattle.ir.specs.Variants.{variant_count}
 use Rattle.whole.specs.Bits.{bit}
@@ -8,8 +7,6 @@ use Rattle.graph.specs.declared.Counts.{Counts}
 use Rattle.graph.specs.declared.Row.{Row}
 use Rattle.table.specs.declared.AnnihilatorKind.{AnnihilatorKind}
 use Rattle.table.specs.declared.AnnihilatorKind.TheVariants.{AndFalse, OrTrue}
-use Rattle.table.specs.declared.OptionAnnihilator.{OptionAnnihilator}
-use Rattle.table.specs.declared.OptionAnnihilator.TheVariants.{None, Some}
 
 -- whether two rows agree in class and all three variants
 abbrev pub is_row : Row → Row → Bool
@@ -71,9 +68,9 @@ abbrev pub bool_of : AnnihilatorKind → Bool
 bool_of AndFalse = false
 bool_of OrTrue = true
 
-abbrev pub settling : OptionAnnihilator → Option Bool
-settling None = none
-settling (Some kind) = some (bool_of kind)
+abbrev pub settling : Option AnnihilatorKind → Option Bool
+settling None = None
+settling (Some kind) = Some (bool_of kind)
 
 -- whether an annihilator record of the class was counted
 abbrev pub counted : Counts → ℕ → Bool

@@ -2,7 +2,6 @@
 #![tactic(auto)]
 
 ghost use Rattle.std.specs.Prelude.{◌≡◌, true, cond, List, [], ◌∷◌, ◌++◌, length, get_or, ℕ, ◌<◌};
-ghost use Rattle.std.proofs.Math.Option.{none};
 ghost use Rattle.ir.specs.Classes.{settles};
 ghost use Rattle.graph.specs.declared.Row.{Row};
 ghost use Rattle.graph.specs.Graph.{row_at};
@@ -11,7 +10,7 @@ ghost use Rattle.ir.specs.declared.Role.TheVariants.{Row as RowRole};
 ghost use Rattle.records.specs.Access.{rows_of, no_row};
 ghost use Rattle.table.specs.Table.{covers as coversOf, has_cell, row_number, VariantsFit, SameNumber, number_count, word_count, has_number, is_marked, Marks, Cells, settling, counted};
 
-use graph::Counts;
+use graph::{Counts, Row};
 use ir::{class, variant};
 use records::access;
 
@@ -20,12 +19,6 @@ use records::access;
 pub enum AnnihilatorKind {
     AndFalse,
     OrTrue,
-}
-
-#[derive(Clone, Copy)]
-pub enum OptionAnnihilator {
-    None,
-    Some(AnnihilatorKind),
 }
 
 // How many numbers there are of rows of a listed class whose variants fit.
@@ -40,31 +33,26 @@ pub type Rows = [u64; WORD_COUNT];
 
 pub const NO_ROWS: Rows = [0; WORD_COUNT];
 
-fn wide(x: u8) -> usize
-    ensures { result ≡ x }
-{
-    x as usize
-}
-
 // Whether the table answers for a row: it does for each that passes question 4.
-fn has_cell(class: u8, first: u8, second: u8, third: u8) -> bool
-    ensures cell { result ≡ has_cell (record { class = class; first = first; second = second; third = third }) }
-    ensures listed { (s : List ℕ) (at : ℕ) → row_at s at ≡ record { class = class; first = first; second = second; third = third } → is_listed RowRole s at ≡ true → result ≡ true }
-    ensures fits { result ≡ true → VariantsFit (record { class = class; first = first; second = second; third = third }) }
+fn has_cell(row: Row) -> bool
+    ensures cell { result ≡ has_cell row }
+    ensures listed { (s : List ℕ) (at : ℕ) → row_at s at ≡ row → is_listed RowRole s at ≡ true → result ≡ true }
+    ensures fits { result ≡ true → VariantsFit row }
 {
-    (wide(class) < class::COUNT)
-        & (wide(first) < variant::COUNT)
-        & (wide(second) < variant::COUNT)
-        & (wide(third) < variant::COUNT)
+    (usize::from(row.class) < class::COUNT)
+        & (usize::from(row.first) < variant::COUNT)
+        & (usize::from(row.second) < variant::COUNT)
+        & (usize::from(row.third) < variant::COUNT)
 }
 
 // A row as a single number.
-fn row_number(class: u8, first: u8, second: u8, third: u8) -> usize
-    ensures number { result ≡ row_number (record { class = class; first = first; second = second; third = third }) }
-    ensures same_number { (r : Row) → SameNumber (record { class = class; first = first; second = second; third = third }) r }
+fn row_number(row: Row) -> usize
+    ensures number { result ≡ row_number row }
+    ensures same_number { (r : Row) → SameNumber row r }
 {
-    ((wide(class) * variant::COUNT + wide(first)) * variant::COUNT + wide(second)) * variant::COUNT
-        + wide(third)
+    let pair = usize::from(row.class) * variant::COUNT + usize::from(row.first);
+    let triple = pair * variant::COUNT + usize::from(row.second);
+    triple * variant::COUNT + usize::from(row.third)
 }
 
 // Whether a number is in the table.
@@ -82,8 +70,7 @@ fn mark_number(cells: &mut Rows, n: usize)
     ensures { Marks cells.old n cells.new }
 {
     let k = n / WORD_BITS;
-    let bit: u64 = 1 << (n % WORD_BITS);
-    cells[k] = cells[k] | bit;
+    cells[k] |= 1 << (n % WORD_BITS);
 }
 
 // Marks the k-th of a run of row records, where the table answers for it.
@@ -92,9 +79,8 @@ fn mark(rows: &[u8], k: usize, cells: &mut Rows)
     ensures { (before : List Row) → Cells before cells.old → Cells (before ++ (get_or (rows_of rows.now) k no_row ∷ [])) cells.new }
 {
     let row = access::row(rows, k);
-    if has_cell(row.class, row.first, row.second, row.third) {
-        let n = row_number(row.class, row.first, row.second, row.third);
-        mark_number(cells, n);
+    if has_cell(row) {
+        mark_number(cells, row_number(row));
     }
 }
 
@@ -103,39 +89,28 @@ pub fn index_rows(rows: &[u8], cells: &mut Rows)
     ensures { Cells (rows_of rows.now) cells.new }
 {
     *cells = NO_ROWS;
-    let n = rows.len() / access::ROW_SIZE;
-    let mut k: usize = 0;
-    while k < n {
+    for k in 0..rows.len() / access::ROW_SIZE {
         mark(rows, k, cells);
-        k = k + 1;
     }
 }
 
 // Whether the table has this row: its number is formed once and looked up, without a loop.
-pub fn covers(cells: &Rows, class: u8, first: u8, second: u8, third: u8) -> bool
-    requires { has_cell (record { class = class; first = first; second = second; third = third }) ≡ true }
-    ensures marked { result ≡ is_marked cells.now (record { class = class; first = first; second = second; third = third }) }
-    ensures rows { (rows : List Row) → Cells rows cells.now → result ≡ coversOf rows (record { class = class; first = first; second = second; third = third }) }
+pub fn covers(cells: &Rows, row: Row) -> bool
+    requires { has_cell row ≡ true }
+    ensures marked { result ≡ is_marked cells.now row }
+    ensures rows { (rows : List Row) → Cells rows cells.now → result ≡ coversOf rows row }
 {
-    let n = row_number(class, first, second, third);
-    has_number(cells, n)
+    has_number(cells, row_number(row))
 }
 
 // The annihilator of a class, where a record of it was counted.
-pub fn annihilator(counts: Counts, class: u8) -> OptionAnnihilator
-    ensures { settling result ≡ cond (counted counts class) (settles class) none }
+#[tactic(auto, unfolding(ir::specs::Classes::settles))]
+pub fn annihilator(counts: Counts, class: u8) -> Option<AnnihilatorKind>
+    ensures { settling result ≡ cond (counted counts class) (settles class) None }
 {
-    if class == class::LOGICAL_AND {
-        if counts.and_false {
-            return OptionAnnihilator::Some(AnnihilatorKind::AndFalse);
-        }
-        return OptionAnnihilator::None;
+    match class {
+        class::LOGICAL_AND if counts.and_false => Some(AnnihilatorKind::AndFalse),
+        class::LOGICAL_OR if counts.or_true => Some(AnnihilatorKind::OrTrue),
+        _ => None,
     }
-    if class == class::LOGICAL_OR {
-        if counts.or_true {
-            return OptionAnnihilator::Some(AnnihilatorKind::OrTrue);
-        }
-        return OptionAnnihilator::None;
-    }
-    OptionAnnihilator::None
 }

@@ -1,4 +1,4 @@
-// Short texts: 16 bytes in two words, low byte first. A text ends with its last byte that isn't 0.
+// Short texts.
 #![tactic(auto)]
 
 ghost use Rattle.std.specs.Prelude.{◌≡◌, false, ◌+◌, ◌≤◌, ◌<◌, length};
@@ -21,91 +21,100 @@ const ZERO_DIGIT: u64 = 48;
 // `false` as a word.
 const FALSE: u64 = 0x65_73_6C_61_66;
 
-const WORD_BITS: u32 = 64;
-
 // The place of a word's highest byte.
 const TOP: u64 = 0x0100_0000_0000_0000;
 
-// Whether two texts are the same.
-pub fn eq(low: u64, high: u64, other_low: u64, other_high: u64) -> bool
-    ensures { result ≡ is_text low high (text_of other_low other_high) }
-{
-    (low == other_low) & (high == other_high)
+// A text: 16 bytes in two words, low byte first. It ends with its last byte that isn't 0.
+#[derive(Clone, Copy, PartialEq, Eq)]
+pub struct Text {
+    pub low: u64,
+    pub high: u64,
 }
 
-// Whether the text is empty, `0` or `false`.
-pub fn is_false(low: u64, high: u64) -> bool
-    ensures { result ≡ is_false low high }
-{
-    ((low == 0) | (low == ZERO_DIGIT) | (low == FALSE)) & (high == 0)
-}
+impl Text {
+    // Whether two texts are the same, byte for byte. `==` compares their words.
+    pub fn equals(self, other: Text) -> bool
+        ensures { result ≡ is_text self.low self.high (text_of other.low other.high) }
+    {
+        self == other
+    }
 
-// Whether the text is the digits of a number, the first of them not 0; of 0 there are none.
-fn is_digits(low: u64, high: u64, n: u64) -> bool
-    ensures { result ≡ is_digits low high n }
-{
-    let mut rest = n;
-    let mut l: u64 = 0;
-    let mut h: u64 = 0;
-    while rest != 0 {
-        if TOP <= h {
+    // Whether the text is empty, `0` or `false`.
+    pub fn is_false(self) -> bool
+        ensures { result ≡ is_false self.low self.high }
+    {
+        matches!(self.low, 0 | ZERO_DIGIT | FALSE) & (self.high == 0)
+    }
+
+    // Whether the text is the plain decimal form of an Int.
+    pub fn is_decimal(self, n: i64) -> bool
+        ensures equal { result ≡ is_decimal self.low self.high n }
+        ensures plain { IsPlain n (decimal n) }
+        ensures long { max_text < length (decimal n) → result ≡ false }
+    {
+        let size = n.unsigned_abs();
+        if n < 0 {
+            return self.is_negated(size);
+        }
+        if size == 0 {
+            return self
+                == Text {
+                    low: ZERO_DIGIT,
+                    high: 0,
+                };
+        }
+        self.is_digits(size)
+    }
+
+    // The length of a text.
+    pub fn length_of(self) -> u8
+        ensures { result ≡ text_length self.low self.high }
+    {
+        if self.high == 0 {
+            return word_length(self.low);
+        }
+        8 + word_length(self.high)
+    }
+
+    // Whether the text is the digits of a number, the first of them not 0; of 0 there are none.
+    fn is_digits(self, n: u64) -> bool
+        ensures { result ≡ is_digits self.low self.high n }
+    {
+        let mut rest = n;
+        let mut digits = Text { low: 0, high: 0 };
+        while rest != 0 {
+            if TOP <= digits.high {
+                return false;
+            }
+            digits = Text {
+                low: digits.low % TOP * 256 + (ZERO_DIGIT + rest % 10),
+                high: digits.high * 256 + digits.low / TOP,
+            };
+            rest /= 10;
+        }
+        digits == self
+    }
+
+    // Whether the text is a minus sign and the digits of a number.
+    fn is_negated(self, n: u64) -> bool
+        ensures { result ≡ is_negated self.low self.high n }
+    {
+        if self.low % 256 != MINUS_SIGN {
             return false;
         }
-        h = h * 256 + l / TOP;
-        l = l % TOP * 256 + (ZERO_DIGIT + rest % 10);
-        rest = rest / 10;
+        let digits = Text {
+            low: self.low / 256 + self.high % 256 * TOP,
+            high: self.high / 256,
+        };
+        digits.is_digits(n)
     }
-    (l == low) & (h == high)
-}
-
-// Whether the text is a minus sign and the digits of a number.
-fn is_negated(low: u64, high: u64, n: u64) -> bool
-    ensures { result ≡ is_negated low high n }
-{
-    if low % 256 != MINUS_SIGN {
-        return false;
-    }
-    is_digits(low / 256 + high % 256 * TOP, high / 256, n)
-}
-
-// Whether the text is the plain decimal form of an Int.
-pub fn is_decimal(low: u64, high: u64, n: i64) -> bool
-    ensures equal { result ≡ is_decimal low high n }
-    ensures plain { IsPlain n (decimal n) }
-    ensures long { max_text < length (decimal n) → result ≡ false }
-{
-    let size = whole::unsigned_abs(n);
-    if whole::less(n, 0) {
-        return is_negated(low, high, size);
-    }
-    if size == 0 {
-        return (low == ZERO_DIGIT) & (high == 0);
-    }
-    is_digits(low, high, size)
 }
 
 // How many bytes of a word there are up to the last that isn't 0.
 fn word_length(x: u64) -> u8
     ensures { (result ≡ word_length x) × (result ≤ 8) }
 {
-    let bits = WORD_BITS - u64::leading_zeros(x);
-    ((bits + 7) / 8) as u8
-}
-
-// The length of a text.
-pub fn length_of(low: u64, high: u64) -> u8
-    ensures { result ≡ text_length low high }
-{
-    if high == 0 {
-        return word_length(low);
-    }
-    8 + word_length(high)
-}
-
-fn wide(x: u8) -> usize
-    ensures { (result ≡ x) × (result < 256) }
-{
-    x as usize
+    ((u64::BITS - x.leading_zeros() + 7) / 8) as u8
 }
 
 // Whether a byte may stand at a place of a text of some length.
@@ -124,16 +133,14 @@ pub fn is_listed(s: &[u8], at: usize) -> bool
     requires { at + text_value_size ≤ length s.now }
     ensures { result ≡ is_listed_text s.now at }
 {
-    let length = wide(s[at]);
+    let length = usize::from(s[at]);
     if MAX_LENGTH < length {
         return false;
     }
-    let mut i: usize = 0;
-    while i < MAX_LENGTH {
+    for i in 0..MAX_LENGTH {
         if !is_char(length, i, s[at + 1 + i]) {
             return false;
         }
-        i = i + 1;
     }
     true
 }

@@ -20,18 +20,7 @@ pub enum Value {
 }
 
 // A gate's input: no wire and no property, or a value.
-#[derive(Clone, Copy)]
-pub enum Operand {
-    Unwired,
-    Known(Value),
-}
-
-// What a gate gives: no value, or one.
-#[derive(Clone, Copy)]
-pub enum OptionValue {
-    None,
-    Some(Value),
-}
+pub type Operand = Option<Value>;
 
 pub fn variant_of(v: Value) -> u8
     ensures { result ≡ variant_of v }
@@ -40,24 +29,10 @@ pub fn variant_of(v: Value) -> u8
         Value::Int(_) => variant::INT,
         Value::Float(_) => variant::FLOAT,
         Value::Bool(_) => variant::BOOL,
-        Value::Vector { x: _, y: _, z: _ } => variant::VECTOR,
-        Value::Rotator {
-            pitch: _,
-            yaw: _,
-            roll: _,
-        } => variant::ROTATOR,
-        Value::Quat {
-            x: _,
-            y: _,
-            z: _,
-            w: _,
-        } => variant::QUAT,
-        Value::Color {
-            r: _,
-            g: _,
-            b: _,
-            a: _,
-        } => variant::COLOR,
-        Value::Text { low: _, high: _ } => variant::TEXT,
+        Value::Vector { .. } => variant::VECTOR,
+        Value::Rotator { .. } => variant::ROTATOR,
+        Value::Quat { .. } => variant::QUAT,
+        Value::Color { .. } => variant::COLOR,
+        Value::Text { .. } => variant::TEXT,
     }
 }

@@ -1,11 +1,12 @@
 -- The float that an Int becomes. Assumes nothing.
-use Prim.Native.Nat.{ℕ, zero, suc, ◌+◌, ◌-◌, ◌*◌, ◌/◌, ◌%◌, ◌^◌, ◌≤◌, ◌<◌}
+use Rattle.std.specs.Prelude.{Option, None, Some}
+use Prim.Native.Nat.{ℕ, zero, suc, ◌+◌, ◌-◌, ◌*◌, ◌/◌, ◌%◌, ◌^◌, ◌≤◌, ◌<◌, min}
 use mathlib.Core.Path.{◌≡◌, refl, sym, ap, ap₂, ◌∙◌, subst}
 use mathlib.Core.Bool.{Bool, true, false, not, ◌&&◌, ◌||◌, beq, and-true, cond}
 use mathlib.Core.Logic.{◌⊎◌, inl, inr}
 use native.Mathlib.Nat.{lt_of_lt_of_le, eq-or-lt_of_le, zero-lt-suc, one-mul, mul-one, mul_assoc, mul_comm, mul_left_comm, mul-pos, mul-le-mul_right, zero-mul, eq_of_mul-eq-mul_right, pow-succ', pow-suc, le_of_suc-le-suc, not-suc-le-zero, le_of_eq, le_antisymm, div-lt_iff_lt-mul, le-div_iff_mul-le, mul-div_cancel}
 use native.Mathlib.Omega.{arith}
-use lib.Dec.{T, eqb, leb, ltb, leb-suc-suc, eqb→eq, le→leb, ltb→lt, lt→ltb, nltb→le, lit<}
+use lib.Dec.{T, eqb, leb, ltb, leb-suc-suc, eqb→eq, ltb→lt, nltb→le, lit<}
 use lib.Pow.{pow-add, pow_pos, pow_mono, shl_lt}
 use lib.Count.{count_trailing_zeros, under, trailing_le}
 use lib.IntN.{ℤ, pos, negsuc, neg_ℤ, nat_abs}
@@ -13,13 +14,12 @@ use lib.Signed.{lt_z, non_neg, shr_z}
 use mir.Syntax.{w64}
 use mir.Val.{SFits}
 use mir.Facts.{to_z-of_z}
-use lib.Ieee.{Float, nan, inf, fin, binary64, unlike, up, down, round, mul, eq, fits, in_float, of_int, of_bits}
+use lib.Ieee.{Float, nan, inf, fin, binary64, unlike, up, down, round, mul, eq, fits, of_int, of_bits}
 use lib.Ieee.Bits.{is_true}
 use lib.Ieee.Fits.{down_pos, and_i, and_l, and_r, eq→eqb, of_int-fits}
 use lib.Ieee.Exact.{HasValue, round_exact}
 use lib.Ieee.Back.{round_whole}
 use lib.Ieee.Scale.{round_same}
-use Rattle.whole.specs.declared.OptionFloat.{OptionFloat}
 use Rattle.whole.specs.Convert.{unrounded, EqualsInt, int_as_f64, Examples}
 use Rattle.whole.proofs.Laws.{read_back}
 
@@ -39,29 +39,15 @@ odd_part (suc c) n = go (n % 2) refl (odd_part c (n / 2))
     go (suc b) e r = (n, mul-one n, λ l. omega (arith, e))
 
 -- a count up to d, cut at c
-pub counted_few : (c d n : ℕ) → c ≤ d → count_trailing_zeros d n < c → count_trailing_zeros d n ≡ count_trailing_zeros c n
+counted : (c d n : ℕ) → c ≤ d → min (count_trailing_zeros d n) c ≡ count_trailing_zeros c n
 unfolding count_trailing_zeros
-counted_few zero d n l h = absurd (not-suc-le-zero h)
-counted_few (suc c) zero n l h = absurd (not-suc-le-zero l)
-counted_few (suc c) (suc d) n l h = go (n % 2) h (counted_few c d (n / 2) (le_of_suc-le-suc l))
+counted zero d n l = omega arith
+counted (suc c) zero n l = absurd (not-suc-le-zero l)
+counted (suc c) (suc d) n l = go (n % 2) (counted c d (n / 2) (le_of_suc-le-suc l))
   where
-    go : (b : ℕ) → under b (count_trailing_zeros d (n / 2)) < suc c → (count_trailing_zeros d (n / 2) < c → count_trailing_zeros d (n / 2) ≡ count_trailing_zeros c (n / 2))
-        → under b (count_trailing_zeros d (n / 2)) ≡ under b (count_trailing_zeros c (n / 2))
-    go zero h k = ap suc (k (le_of_suc-le-suc h))
-    go (suc b) h k = refl
-
-pub counted_many : (c d n : ℕ) → c ≤ count_trailing_zeros d n → c ≡ count_trailing_zeros c n
-unfolding count_trailing_zeros
-counted_many zero d n h = refl
-counted_many (suc c) zero n h = absurd (not-suc-le-zero h)
-counted_many (suc c) (suc d) n h = go (n % 2) h (counted_many c d (n / 2))
-  where
-    go : (b : ℕ) → suc c ≤ under b (count_trailing_zeros d (n / 2)) → (c ≤ count_trailing_zeros d (n / 2) → c ≡ count_trailing_zeros c (n / 2)) → suc c ≡ under b (count_trailing_zeros c (n / 2))
-    go zero h k = ap suc (k (le_of_suc-le-suc h))
-    go (suc b) h k = absurd (not-suc-le-zero h)
-
-pub counted_most : (n : ℕ) {c k : ℕ} → k ≡ count_trailing_zeros c n → k ≤ c
-counted_most n {c} e = rw e (trailing_le c n)
+    go : (b : ℕ) → min (count_trailing_zeros d (n / 2)) c ≡ count_trailing_zeros c (n / 2) → min (under b (count_trailing_zeros d (n / 2))) (suc c) ≡ under b (count_trailing_zeros c (n / 2))
+    go zero h = omega (arith, h)
+    go (suc b) h = omega arith
 
 -- ---- An Int and its part before k zeros, z
 
@@ -245,9 +231,10 @@ too_long n z k f s l = go (eq-or-lt_of_le s.most)
 
 -- ---- What the functions ensure
 
-pub shift_of : (n : ℤ) (u k : ℕ) (m : ℤ) → SFits w64 n → u ≡ nat_abs (read_back n) → k ≡ count_trailing_zeros 11 u → m ≡ shr_z n (2 ^ k) → Scaled n m k
+pub shift_of : (n : ℤ) (u k : ℕ) (m : ℤ) → SFits w64 n → u ≡ nat_abs (read_back n) → k ≡ min (count_trailing_zeros 64 u) 11 → m ≡ shr_z n (2 ^ k) → Scaled n m k
 shift_of n u k m f a b e =
-    let i : k ≡ count_trailing_zeros 11 (nat_abs n) = b ∙ ap (count_trailing_zeros 11) (a ∙ ap nat_abs (to_z-of_z f)) in
+    let l : 11 ≤ 64 = omega arith in
+    let i : k ≡ count_trailing_zeros 11 (nat_abs n) = b ∙ counted 11 64 u l ∙ ap (count_trailing_zeros 11) (a ∙ ap nat_abs (to_z-of_z f)) in
     subst (λ (z : ℤ). Scaled n z k) (sym e) (subst (λ (j : ℕ). Scaled n (shr_z n (2 ^ j)) j) (sym i) (scaled n))
 
 -- the test of m
@@ -261,47 +248,38 @@ inside_is (negsuc n) = and-true _ ∙ sym (leb-suc-suc (suc n) (2 ^ 53 - 1))
 below : (z : ℤ) → inside z ≡ true → nat_abs z < 2 ^ 53
 below z h = ltb→lt (nat_abs z) (2 ^ 53) (subst T (sym h ∙ inside_is z) tt)
 
-pub inside_cast : (z : ℤ) → inside z ≡ true → T (in_float binary64 z)
-unfolding in_float
-inside_cast (pos n) h = let l = below (pos n) h in le→leb n (2 ^ 53) (omega (arith, l))
-inside_cast (negsuc n) h = let l = below (negsuc n) h in lt→ltb n (2 ^ 53) (omega (arith, l))
-
-pub power_cast : (k : ℕ) → k ≤ 11 → T (in_float binary64 (pos (1 * 2 ^ k % 2 ^ 64)))
-unfolding in_float
-power_cast k h = rw (power_fits k h) (le→leb (2 ^ k) (2 ^ 53) (power_most k h))
-
 examples_hold : Examples
 unfolding int_as_f64 eq of_int round of_bits
 examples_hold = record { power = refl; least = refl; odd = refl; greatest = refl }
 
-abbrev pub Ensured : ℤ → OptionFloat → Type 0
+abbrev pub Ensured : ℤ → Option Float → Type 0
 Ensured n r =
-    let some : Type 0 = (r ≡ OptionFloat.Some (of_int binary64 n)) in
+    let some : Type 0 = (r ≡ Some (of_int binary64 n)) in
     (r ≡ int_as_f64 n)
-    × (((x : Float) → r ≡ OptionFloat.Some x → EqualsInt x n)
+    × (((x : Float) → r ≡ Some x → EqualsInt x n)
     × (((x : Float) → EqualsInt x n → some) × ((nat_abs n ≤ 2 ^ 53 → some) × ((nat_abs n % 1024 ≡ 0 → some) × Examples))))
 
-pub given : (n z : ℤ) (k : ℕ) → Scaled n z k → inside z ≡ true → Ensured n (OptionFloat.Some (mul binary64 (of_int binary64 z) (of_int binary64 (pos (1 * 2 ^ k % 2 ^ 64)))))
+pub given : (n z : ℤ) (k : ℕ) → Scaled n z k → inside z ≡ true → Ensured n (Some (mul binary64 (of_int binary64 z) (of_int binary64 (pos (1 * 2 ^ k % 2 ^ 64)))))
 unfolding int_as_f64
 given n z k s t =
     let h = below z t in
     let m = s.most in
     let l : k ≤ 63 = omega (arith, m) in
     let i = equals_nearest n (scaled_value n (nat_abs z) k h l s.size) in
-    let r = ap OptionFloat.Some (product_is n z k s h) in (
+    let r = ap Some (product_is n z k s h) in (
       r ∙ rw (is_true (eq (of_int binary64 n) (unrounded n)) i.equal),
       (λ x p. let j : of_int binary64 n ≡ x = cc in subst (λ (y : Float). EqualsInt y n) j i, (λ x j. r, (λ l. r, (λ l. r, examples_hold)))),
     )
 
-no_value : (n : ℤ) → ((x : Float) → EqualsInt x n → ⊥) → OptionFloat.None ≡ int_as_f64 n
+no_value : (n : ℤ) → ((x : Float) → EqualsInt x n → ⊥) → None ≡ int_as_f64 n
 unfolding int_as_f64
 no_value n none = go (eq (of_int binary64 n) (unrounded n)) refl
   where
-    go : (b : Bool) → eq (of_int binary64 n) (unrounded n) ≡ b → OptionFloat.None ≡ cond b (OptionFloat.Some (of_int binary64 n)) OptionFloat.None
+    go : (b : Bool) → eq (of_int binary64 n) (unrounded n) ≡ b → None ≡ cond b (Some (of_int binary64 n)) None
     go true h = absurd (none (of_int binary64 n) (record { f64 = of_int-fits binary64 n; equal = rw h tt }))
     go false h = refl
 
-pub not_given : (n z : ℤ) (k : ℕ) → SFits w64 n → Scaled n z k → inside z ≡ false → Ensured n OptionFloat.None
+pub not_given : (n z : ℤ) (k : ℕ) → SFits w64 n → Scaled n z k → inside z ≡ false → Ensured n None
 not_given n z k f s t =
     let none = too_long n z k f s (nltb→le (nat_abs z) (2 ^ 53) (rw (sym (inside_is z) ∙ t) tt)) in
     let no_nearest : HasValue (of_int binary64 n) (sign n) (nat_abs n) 1 → ⊥ = λ v. none (of_int binary64 n) (equals_nearest n v) in (

@@ -1,14 +1,11 @@
--- Tests, Ints read back from their bits, equality, and `!`. Assumes nothing.
-use Prim.Native.Nat.{ℕ, suc, ◌-◌, ◌^◌, ◌≤◌, ◌<◌}
+-- Ints read back from their bits, and equality. Assumes nothing.
 use mathlib.Core.Path.{◌≡◌, refl, sym, ap, ap₂, ◌∙◌, subst}
 use mathlib.Core.Bool.{Bool, true, false}
-use native.Mathlib.Omega.{arith}
-use lib.Dec.{T, leb, eqb, leb→le, le→leb, eqb→eq, eqb_refl}
+use lib.Dec.{T, eqb, eqb→eq, eqb_refl}
 use lib.IntN.{ℤ, pos, negsuc}
 use mir.Syntax.{w64}
 use mir.Val.{SFits, to_z, of_z}
 use mir.Facts.{to_z-of_z}
-use mir.ValLaws.{to_z_pos, to_z-neg}
 use Rattle.whole.specs.Compare.{eq_z}
 
 -- ---- Two tests that pass together are the same
@@ -19,16 +16,10 @@ same_test true false f g = absurd (f tt)
 same_test false true f g = absurd (g tt)
 same_test false false f g = refl
 
-pub same_leb : (a b m n : ℕ) → (a ≤ b → m ≤ n) → (m ≤ n → a ≤ b) → leb a b ≡ leb m n
-same_leb a b m n f g = same_test _ _ (λ t. le→leb m n (f (leb→le a b t))) (λ t. le→leb a b (g (leb→le m n t)))
-
 -- ---- An Int that a function passes on or returns is read back from its bits
 
 abbrev pub read_back : ℤ → ℤ
 read_back z = to_z w64 (of_z w64 z)
-
-pub read_fits : {z : ℤ} → SFits w64 z → SFits w64 (read_back z)
-read_fits f = rw (to_z-of_z f) f
 
 pub read₂ : {X : Type 0} (f : ℤ → ℤ → X) {a b : ℤ} → SFits w64 a → SFits w64 b → f (read_back a) (read_back b) ≡ f a b
 read₂ f p q = ap₂ f (to_z-of_z p) (to_z-of_z q)
@@ -55,16 +46,3 @@ eq_bits a b p q =
     same_test _ _
     (λ t. ≡→eqZ (sym (to_z-of_z p) ∙ ap (to_z w64) (eqb→eq (of_z w64 a) (of_z w64 b) t) ∙ to_z-of_z q))
     (λ t. subst (λ (z : ℤ). T (eqb (of_z w64 a) (of_z w64 z))) (eqZ→≡ a b t) (eqb_refl (of_z w64 a)))
-
--- ---- `!` is -1 - z
-
-abbrev pub not_z : ℤ → ℤ
-not_z (pos n) = negsuc n
-not_z (negsuc n) = pos n
-
-pub not_is : (z : ℤ) → SFits w64 z → to_z w64 (2 ^ 64 - 1 - of_z w64 z) ≡ not_z z
-not_is (pos n) f = let e : 2 ^ 64 - 1 - n ≡ 2 ^ 64 - suc n = omega arith in rw e (to_z-neg w64 n f.sfits)
-not_is (negsuc n) f =
-    let h : n < 2 ^ 63 = f.sfits in
-    let e : 2 ^ 64 - 1 - (2 ^ 64 - suc n) ≡ n = omega arith in
-    rw e (to_z_pos w64 n h)

@@ -1,10 +1,9 @@
 -- The 64 bits of an Int, and the bitwise gates on Ints (document 01, "Corners of semantics.rs" and "Records").
-use Rattle.std.specs.Prelude.{ℕ, zero, suc, ◌+◌, ◌-◌, ◌*◌, ◌/◌, ◌%◌, ◌^◌, Bool, ◌&&◌, cond, ℤ, pos, nat_abs}
+use Rattle.std.specs.Prelude.{ℕ, zero, suc, ◌+◌, ◌-◌, ◌*◌, ◌/◌, ◌%◌, ◌^◌, Bool, ◌&&◌, cond, ℤ, pos, nat_abs, Option, None, Some}
 use Rattle.std.specs.Int.Bits.{bit_and, bit_or, bit_xor}
 use Rattle.std.specs.Int.Signed.{le_z, shr_z}
 use Rattle.std.specs.Int.{w64}
 use Rattle.std.proofs.Common.{of_z, to_z}
-use Rattle.whole.specs.declared.OptionInt.{OptionInt}
 
 -- "Ints in two's complement": the bits of n are the number n, those of -n the number 2^64 - n.
 abbrev pub to_bits : ℤ → ℕ
@@ -40,15 +39,15 @@ nor_of a b = from_bits (complement (bit_or (to_bits a) (to_bits b)))
 unfoldable pub shift_in_range : ℤ → Bool
 shift_in_range k = le_z (pos 0) k && le_z k (pos 63)
 
-unfoldable pub shifted : ℤ → ℤ → OptionInt
-shifted k z = cond (shift_in_range k) (OptionInt.Some z) OptionInt.None
+unfoldable pub shifted : ℤ → ℤ → Option ℤ
+shifted k z = cond (shift_in_range k) (Some z) None
 
 -- "left drops high bits"
-abbrev pub shift_left_of : ℤ → ℤ → OptionInt
+abbrev pub shift_left_of : ℤ → ℤ → Option ℤ
 shift_left_of a k = shifted k (from_bits (to_bits a * 2 ^ nat_abs k % 2 ^ 64))
 
 -- "right carries the sign": the quotient by 2^k, rounded down.
-abbrev pub shift_right_of : ℤ → ℤ → OptionInt
+abbrev pub shift_right_of : ℤ → ℤ → Option ℤ
 shift_right_of a k = shifted k (shr_z a (2 ^ nat_abs k))
 
 -- Bit i of a number, and the sum of its bits below k.

@@ -1,5 +1,4 @@
-pub mod Bounds
-pub mod Chains
+pub mod Walks
 pub mod Linking
 pub mod WireOrder
 pub mod Slots

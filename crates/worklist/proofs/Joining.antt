@@ -19,7 +19,7 @@ use Rattle.model.proofs.Maps.{Same, same?}
 use Rattle.model.proofs.Lists.{or_right}
 use Rattle.state.specs.Held.{known_of}
 use Rattle.wire_index.specs.Chains.{Chain, end, link, enters, Leaving, Consumers}
-use Rattle.wire_index.proofs.Chains.{Step, chain_step, chain_end}
+use Rattle.wire_index.proofs.Walks.{Step, steps, chain_step, chain_end, chain_less}
 use Rattle.worklist.specs.Queue.{Waits}
 use Rattle.worklist.specs.Joins.{join_one, OneJoined, Chained, ConsumersJoined}
 use Rattle.worklist.proofs.Queues.{queued_place, queued_more, queued_waits}
@@ -88,17 +88,17 @@ chain_row g n {ws} e b l =
 pub chained : (g : Graph) (n : ℕ) {wires first next : List ℕ} → wires_of wires ≡ g.wires → Bounded g.wires (size g) → Consumers g.wires first next → n < size g → Chained wires first next n
 chained g n e b c l = record { nodes = size g; bounded = rw e b; leaving = rw e (c.leaving n (omega (arith, b.few_nodes))) }
 
--- where the walk of the chain of node n stands: at a code, with no more than so many wires left. Joining those that are left gives the whole
-pub record Walking (wires first next kinds : List ℕ) (n head : ℕ) (places₀ : List ℕ) (count : ℕ) (marks : List Bool) (places : List ℕ) (total code left : ℕ) : Type 0 where
+-- where the walk of the chain of node n stands: at a code. Joining those that are left gives the whole
+pub record Walking (wires first next kinds : List ℕ) (n head : ℕ) (places₀ : List ℕ) (count : ℕ) (marks : List Bool) (places : List ℕ) (total code : ℕ) : Type 0 where
   pub chained : Chained wires first next n
   pub queued : Waits marks places head total
   pub out : List Wire
   pub chain : Chain (wires_of wires) next code out
-  pub few : length out ≤ left
+  pub few : length out ≤ max_wires
   pub law : (words : List ℕ) → join_all (known_of kinds words) (queue_of places head total) (targets_of out) ≡ join_all (known_of kinds words) (queue_of places₀ head count) (targets_of chained.leaving.out)
 
 module _ {wires first next kinds : List ℕ} {n head : ℕ} {places₀ : List ℕ} {count : ℕ} where
-  pub walk_starts : {marks₀ : List Bool} {code : ℕ} → Chained wires first next n → Waits marks₀ places₀ head count → code ≡ get_or first n 0 → Walking wires first next kinds n head places₀ count marks₀ places₀ count code max_wires
+  pub walk_starts : {marks₀ : List Bool} {code : ℕ} → Chained wires first next n → Waits marks₀ places₀ head count → code ≡ get_or first n 0 → Walking wires first next kinds n head places₀ count marks₀ places₀ count code
   walk_starts h q e =
       record {
         chained = h;
@@ -109,7 +109,7 @@ module _ {wires first next kinds : List ℕ} {n head : ℕ} {places₀ : List �
         law = λ words. refl;
       }
 
-  module _ {marks : List Bool} {places : List ℕ} {total code left : ℕ} (w : Walking wires first next kinds n head places₀ count marks places total code left) where
+  module _ {marks : List Bool} {places : List ℕ} {total code : ℕ} (w : Walking wires first next kinds n head places₀ count marks places total code) where
     pub walk_ends : code ≡ 0 → ConsumersJoined wires kinds n head places₀ count marks places total
     unfolding join_all
     walk_ends e =
@@ -123,12 +123,12 @@ module _ {wires first next kinds : List ℕ} {n head : ℕ} {places₀ : List �
       here : Step (wires_of wires) next code w.out
       here = chain_step w.chain (omega arith)
 
-      -- there is a wire at the code, so some were left
+      -- there is a wire at the code
       pub walk_wire : code - 1 < length (wires_of wires)
       walk_wire = here.within
 
-      pub walk_left : 0 < left
-      walk_left = omega (arith, ap length here.split, w.few)
+      pub walk_less : {code' : ℕ} → code' ≡ get_or next (code - 1) 0 → steps max_wires next code' < steps max_wires next code
+      walk_less e = rw e (chain_less max_wires w.chain w.few (omega arith))
 
       pub walk_next : code - 1 < max_wires
       walk_next = omega (arith, here.within, w.chained.bounded.few_wires)
@@ -141,7 +141,7 @@ module _ {wires first next kinds : List ℕ} {n head : ℕ} {places₀ : List �
         walk_target = rw at (omega (arith, (w.chained.bounded.named (code - 1) here.within).target, w.chained.bounded.few_nodes))
 
         -- the walk goes on
-        pub walk_on : {marks' : List Bool} {places' : List ℕ} {more code' : ℕ} → OneJoined kinds c head places total marks' places' more → code' ≡ get_or next (code - 1) 0 → Walking wires first next kinds n head places₀ count marks' places' more code' (left - 1)
+        pub walk_on : {marks' : List Bool} {places' : List ℕ} {more code' : ℕ} → OneJoined kinds c head places total marks' places' more → code' ≡ get_or next (code - 1) 0 → Walking wires first next kinds n head places₀ count marks' places' more code'
         unfolding join_all
         walk_on o e =
             record {

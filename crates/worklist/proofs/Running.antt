@@ -1,7 +1,7 @@
 -- The loop: where it starts, goes on and ends.
+use Rattle.std.specs.Prelude.{None}
 use mathlib.Core.Path.{◌≡◌, refl, sym, ap, ◌∙◌}
 use mathlib.Core.Bool.{Bool, false}
-use mathlib.Core.Option.{none}
 use mathlib.Core.List.{List, [], ◌∷◌}
 use Prim.Native.Nat.{ℕ, ◌+◌, ◌-◌, ◌%◌, ◌<◌, ◌≤◌}
 use native.Mathlib.Omega.{arith}
@@ -82,7 +82,7 @@ module _ {g : Graph} {own : Map Value} {pops : ℕ} {kinds words actions details
       at_node = rw is_front (rw front at now_waiting.nodes).0
 
       -- a waiting node is not known
-      pub at_unknown : known_of kinds words n ≡ none
+      pub at_unknown : known_of kinds words n ≡ None
       at_unknown = ap (λ (f : Map Value). f n) (sym a.holds.known) ∙ rw is_front (rw front at now_waiting.unknown).0
 
       step : after own g (pops + 1) ≡ pop own g (after own g pops).state (after own g pops).pops n rest

@@ -1,7 +1,7 @@
 -- A turn on the arrays is the model's pop.
+use Rattle.std.specs.Prelude.{None}
 use mathlib.Core.Path.{◌≡◌, sym, ap, ◌∙◌}
 use mathlib.Core.Bool.{Bool, true, false, cond}
-use mathlib.Core.Option.{none}
 use mathlib.Core.List.{List, [], ◌++◌, append-nil}
 use Prim.Native.Nat.{ℕ, ◌<◌}
 use Rattle.value.specs.declared.Value.{Value}
@@ -28,7 +28,7 @@ module _ (own : Map Value) (g : Graph) (s : State) (pops n : ℕ) (queue : List 
   abbrev offered : State
   offered = add s n (offer own g s.known n)
 
-  module _ (e : s.known n ≡ none) where
+  module _ (e : s.known n ≡ None) where
     trial_unknown : trial own g s n ≡ offered
     unfolding trial is_some
     trial_unknown = rw e
@@ -45,14 +45,14 @@ module _ (own : Map Value) (g : Graph) (s : State) (pops n : ℕ) (queue : List 
 
 -- node n was not known, and what a trial offers it was stored; whether that was a value
 pub record Tried (g : Graph) (own : Map Value) (n : ℕ) (kinds words actions details kinds' words' actions' details' : List ℕ) (stored : Bool) : Type 0 where
-  pub unknown : known_of kinds words n ≡ none
+  pub unknown : known_of kinds words n ≡ None
   pub law : (s : State) → Holds g kinds words actions details s → Holds g kinds' words' actions' details' (add s n (offer own g s.known n)) × (stored ≡ is_some (offer own g s.known n).value)
 
 -- what `store` ensures of a trial
 abbrev Stored : ℕ → Trial → List ℕ → List ℕ → List ℕ → List ℕ → List ℕ → List ℕ → List ℕ → List ℕ → Bool → Type 0
-Stored n t kinds words actions details kinds' words' actions' details' stored = (g : Graph) (s : State) → n < size g → Holds g kinds words actions details s → s.known n ≡ none → Within g t → Holds g kinds' words' actions' details' (add s n (offer_of g n t)) × (stored ≡ is_some (offer_of g n t).value)
+Stored n t kinds words actions details kinds' words' actions' details' stored = (g : Graph) (s : State) → n < size g → Holds g kinds words actions details s → s.known n ≡ None → Within g t → Holds g kinds' words' actions' details' (add s n (offer_of g n t)) × (stored ≡ is_some (offer_of g n t).value)
 
-pub tried : (g : Graph) (own : Map Value) (n : ℕ) (t : Trial) (kinds words actions details kinds' words' actions' details' : List ℕ) (stored : Bool) → known_of kinds words n ≡ none → n < size g
+pub tried : (g : Graph) (own : Map Value) (n : ℕ) (t : Trial) (kinds words actions details kinds' words' actions' details' : List ℕ) (stored : Bool) → known_of kinds words n ≡ None → n < size g
     → (offer_of g n t ≡ offer own g (known_of kinds words) n) × Within g t → Stored n t kinds words actions details kinds' words' actions' details' stored → Tried g own n kinds words actions details kinds' words' actions' details' stored
 tried g own n t kinds words actions details kinds' words' actions' details' stored unknown l o st =
     record {
@@ -62,7 +62,7 @@ tried g own n t kinds words actions details kinds' words' actions' details' stor
 
 module _ {g : Graph} {own : Map Value} {n : ℕ} {kinds words actions details kinds' words' actions' details' : List ℕ} {stored : Bool} (r : Tried g own n kinds words actions details kinds' words' actions' details' stored) where
   module _ {s : State} (pops : ℕ) (queue : List ℕ) (h : Holds g kinds words actions details s) where
-    unknown_in : s.known n ≡ none
+    unknown_in : s.known n ≡ None
     unknown_in = ap (λ (f : Map Value). f n) h.known ∙ r.unknown
 
     next_state : Holds g kinds' words' actions' details' (pop own g s pops n queue).state

@@ -7,11 +7,13 @@ ghost use Rattle.worklist.specs.Joins.{OneJoined, Chained, ConsumersJoined};
 use crate::queue;
 use crate::queue::QUEUE_PLACES;
 use ir::limit;
-use records::access;
+use records::access::Wires;
+use state::Known;
+use wire_index::Chains;
 
 // Node c joins the `count` waiting ones, unless it is one of them or is known. How many wait then.
 fn join_one(
-    kinds: &[u8; limit::NODES],
+    known: &Known,
     marks: &mut [bool; limit::NODES],
     places: &mut [u16; QUEUE_PLACES],
     head: usize,
@@ -19,12 +21,9 @@ fn join_one(
     c: usize,
 ) -> usize
     requires { (c < max_nodes) × Waits marks.old places.old head count }
-    ensures { OneJoined kinds.now c head places.old count marks.new places.new result }
+    ensures { OneJoined known.now.kinds c head places.old count marks.new places.new result }
 {
-    if marks[c] {
-        return count;
-    }
-    if state::is_known(kinds, c) {
+    if marks[c] || known.is_known(c) {
         return count;
     }
     queue::push(places, head, count, c);
@@ -32,30 +31,26 @@ fn join_one(
     count + 1
 }
 
-// The consumers of node n join in number order, which is that of its chain. `left` bounds the walk: a chain has no more than limit::WIRES wires. How many nodes wait then.
+// The consumers of node n join in number order, which is that of its chain. How many nodes wait then.
 pub fn join(
-    wires: &[u8],
-    first: &[u16; limit::NODES],
-    next: &[u16; limit::WIRES],
-    kinds: &[u8; limit::NODES],
+    wires: &Wires,
+    consumers: &Chains<{ limit::NODES }>,
+    known: &Known,
     marks: &mut [bool; limit::NODES],
     places: &mut [u16; QUEUE_PLACES],
     head: usize,
     count: usize,
     n: usize,
 ) -> usize
-    requires { Chained wires.now first.now next.now n × (n < max_nodes) × Waits marks.old places.old head count }
-    ensures { ConsumersJoined wires.now kinds.now n head places.old count marks.new places.new result }
+    requires { Chained wires.now.records.now consumers.now.first consumers.now.next n × (n < max_nodes) × Waits marks.old places.old head count }
+    ensures { ConsumersJoined wires.now.records.now known.now.kinds n head places.old count marks.new places.new result }
 {
     let mut total = count;
-    let mut code = queue::wide(first[n]);
-    let mut left: usize = limit::WIRES;
+    let mut code = usize::from(consumers.first[n]);
     while code != 0 {
-        let wire = access::wire(wires, code - 1);
-        let target = wire.target.node_id;
-        total = join_one(kinds, marks, places, head, total, target);
-        code = queue::wide(next[code - 1]);
-        left -= 1;
+        let target = wires.get(code - 1).target.node_id;
+        total = join_one(known, marks, places, head, total, target);
+        code = usize::from(consumers.next[code - 1]);
     }
     total
 }

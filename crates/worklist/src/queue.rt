@@ -34,7 +34,7 @@ impl Queue {
         ensures { result ≡ record { places = self.places; head = (self.head + 1) % queue_places; count = self.count - 1 } }
     {
         self.head = (self.head + 1) % QUEUE_PLACES;
-        self.count = self.count - 1;
+        self.count -= 1;
         self
     }
 
@@ -47,18 +47,12 @@ impl Queue {
     }
 }
 
-pub fn wide(x: u16) -> usize
-    ensures { (result ≡ x) × (result < 65536) }
-{
-    x as usize
-}
-
 // The node at the front.
 pub fn front(places: &[u16; QUEUE_PLACES], head: usize) -> usize
     requires { head < queue_places }
     ensures { result ≡ get_or places.now head 0 }
 {
-    wide(places[head])
+    usize::from(places[head])
 }
 
 // Stores a node behind the last of `count`: there is a place for it.
@@ -75,11 +69,9 @@ fn fill(marks: &mut [bool; limit::NODES], places: &mut [u16; QUEUE_PLACES], node
     requires { (nodes ≤ max_nodes) × Queued marks.old places.old 0 0 [] }
     ensures { Queued marks.new places.new 0 nodes (up_to nodes) }
 {
-    let mut n: usize = 0;
-    while n < nodes {
+    for n in 0..nodes {
         marks[n] = true;
         places[n] = n as u16;
-        n += 1;
     }
 }
 

@@ -1,5 +1,5 @@
 -- `answer::nodes_size` meets its contract.
-use Prim.Native.Nat.{ℕ, ◌+◌, ◌-◌, ◌*◌, ◌≤◌}
+use Prim.Native.Nat.{ℕ, ◌+◌, ◌*◌, ◌≤◌}
 use mathlib.Core.Path.{◌≡◌}
 use mathlib.Core.List.{List}
 use lib.ListN.{length}
@@ -7,7 +7,4 @@ use Rattle.answer.specs.Nodes.{known_records, fate_records}
 use Rattle.answer.proofs.nodes_size.Given as goal
 
 abbrev pub invariant-loop-i : goal.invariant-loop-i
-invariant-loop-i l = (l.i ≤ l.nodes) × (l.sum ≤ 71 * l.i) × ((words : List ℕ) → l.sum ≡ length (known_records l.kinds words l.i) + length (fate_records l.kinds words l.actions l.i))
-
-abbrev pub decreases-loop-i : goal.decreases-loop-i
-decreases-loop-i l = l.nodes - l.i
+invariant-loop-i l = (l.sum ≤ 72 * l.i) × ((words : List ℕ) → l.sum ≡ length (known_records l.kinds words l.i) + length (fate_records l.kinds words l.actions l.i))

@@ -1,6 +1,6 @@
 -- `answer::write_known_records` meets its contract.
 use native.Mathlib.Omega.{arith}
-use Rattle.answer.proofs.Fill.{fill_start, fill_long, fill_room, fill_next, fill_end}
+use Rattle.answer.proofs.Fill.{fill_start, fill_room, fill_next}
 use Rattle.answer.proofs.write_known_records.Goals as goal
 
 pub loop-i-init : goal.loop-i-init
@@ -11,9 +11,3 @@ write_known-next-requires c = (omega (arith, c.requires.0, c.loop-i-test.true), 
 
 pub loop-i-preserved : goal.loop-i-preserved
 loop-i-preserved c = fill_next c.loop-i.invariant c.loop-i-test.true c.write_known-next.ensures
-
-pub shape_of-out : goal.shape_of-out
-shape_of-out c = fill_long c.loop-i.invariant
-
-pub returns : goal.returns
-returns c = fill_end c.loop-i.invariant c.loop-i-test.false

@@ -9,11 +9,7 @@ use Rattle.encoding.specs.Words.{held_by}
 use Rattle.encoding.proofs.Splices.{written_length, written_more, same_written}
 use Rattle.encoding.proofs.Held.{kind_held}
 use Rattle.answer.specs.Nodes.{literal_fate}
-use Rattle.answer.proofs.NodeSizes.{kind_low}
 use Rattle.answer.proofs.write_literal.Goals as goal
-
-pub overflow_add-kind : goal.overflow_add-kind
-overflow_add-kind c = omega (arith, kind_low c.args.kind c.requires.0)
 
 pub write_head-next-requires : goal.write_head-next-requires
 unfolding literal_fate bytes_of

@@ -1,9 +1,7 @@
 -- `bitwise::bitwise_not` meets its contract.
-use Rattle.bitwise.proofs.Laws.{gate}
+use borrow.Author.Rules.{rules}
+use Rattle.bitwise.proofs.Laws.{on_int_lem}
 use Rattle.bitwise.proofs.bitwise_not.Goals as goal
 
-pub returns-in_default : goal.returns-in_default
-returns-in_default c = search gate
-
 pub returns : goal.returns
-returns c = search gate
+returns c = on_int_lem _ _ (λ n h. search rules) c.on_int.ensures

@@ -1,12 +1,7 @@
 -- `bitwise::bitwise_shift_left` meets its contract.
-use Rattle.bitwise.proofs.Laws.{gate}
+use borrow.Author.Rules.{rules}
+use Rattle.bitwise.proofs.Laws.{on_ints_lem}
 use Rattle.bitwise.proofs.bitwise_shift_left.Goals as goal
 
-pub returns-in_default : goal.returns-in_default
-returns-in_default c = search gate
-
-pub returns-in_default-as_int : goal.returns-in_default-as_int
-returns-in_default-as_int c = search gate
-
 pub returns : goal.returns
-returns c = search gate
+returns c = on_ints_lem _ _ _ (λ m n h. search rules) c.on_ints.ensures

@@ -4,10 +4,7 @@ use Rattle.emit.proofs.Writing.{prepared, prepared_shared}
 use Rattle.emit.proofs.write_wires.Goals as goal
 
 pub share_chains-requires : goal.share_chains-requires
-share_chains-requires c = (starts c.requires.ready, c.requires.ready.bounded.few_nodes)
+share_chains-requires c = starts c.requires.ready
 
 pub write_all-requires : goal.write_all-requires
-write_all-requires c = record { prepared = prepared_shared (prepared c.requires.ready) c.share_chains.ensures; room = c.requires.room }
-
-pub returns : goal.returns
-returns c = c.write_all.ensures
+write_all-requires c = (prepared_shared (prepared c.requires.ready) c.share_chains.ensures, c.requires.room)

@@ -1,9 +1,7 @@
 -- `extended::floor` meets its contract.
-use Rattle.extended.proofs.Laws.{gate}
+use borrow.Author.Rules.{rules}
+use Rattle.extended.proofs.Laws.{on_float_lem}
 use Rattle.extended.proofs.floor.Goals as goal
 
-pub returns-in_default : goal.returns-in_default
-returns-in_default c = search gate
-
 pub returns : goal.returns
-returns c = search gate
+returns c = on_float_lem _ _ (λ x h. search rules) c.on_float.ensures

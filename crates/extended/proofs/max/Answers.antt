@@ -1,17 +1,15 @@
 -- `extended::max` meets its contract.
-use mathlib.Core.Path.{◌∙◌}
+use borrow.Author.Rules.{rules}
+use mathlib.Core.Path.{◌≡◌, ap, ◌∙◌}
 use Rattle.whole.specs.Compare.{max_of}
 use Rattle.whole.proofs.Order.{max_of_swapped}
 use Rattle.extended.specs.Extended.{int}
-use Rattle.extended.proofs.Laws.{gate, no_int_second, an_int, same_int}
+use Rattle.extended.proofs.Laws.{on_floats_lem, on_floats_swapped, on_ints_lem, on_ints_swapped}
 use Rattle.extended.proofs.max.Goals as goal
 
-pub returns-in_default : goal.returns-in_default
-returns-in_default c =
-    record { result = search gate; swapped = no_int_second _ (λ m n. int (max_of m n)) c.as_int.ensures c.in_default.is c.max_floats.ensures.swapped }
+pub returns-clause-result : goal.returns-clause-result
+returns-clause-result c = on_ints_lem _ _ _ (λ m n h. search rules) (on_floats_lem _ _ _ (λ x y h. search rules)) c.on_numbers.ensures
 
-pub returns-in_default-as_int : goal.returns-in_default-as_int
-returns-in_default-as_int c = search gate
-
-pub returns : goal.returns
-returns c = record { result = search gate; swapped = search (an_int, same_int, c.max.ensures ∙ max_of_swapped _ _) }
+pub returns-clause-swapped : goal.returns-clause-swapped
+returns-clause-swapped c =
+    on_ints_swapped _ _ _ (λ m n h. let e : c.on_numbers.result ≡ int (max_of m n) = search rules in e ∙ ap int (max_of_swapped m n)) (on_floats_swapped _ _ _ (λ x y h. search rules)) c.on_numbers.ensures

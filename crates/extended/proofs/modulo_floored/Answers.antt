@@ -1,12 +1,7 @@
 -- `extended::modulo_floored` meets its contract.
-use Rattle.extended.proofs.Laws.{gate}
+use borrow.Author.Rules.{rules}
+use Rattle.extended.proofs.Laws.{on_floats_lem}
 use Rattle.extended.proofs.modulo_floored.Goals as goal
 
-pub returns-in_default : goal.returns-in_default
-returns-in_default c = search gate
-
-pub returns-in_default-as_float : goal.returns-in_default-as_float
-returns-in_default-as_float c = search gate
-
 pub returns : goal.returns
-returns c = search gate
+returns c = on_floats_lem _ _ _ (λ x y h. search rules) c.on_floats.ensures

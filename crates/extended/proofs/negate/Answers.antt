@@ -1,12 +1,7 @@
 -- `extended::negate` meets its contract.
-use Rattle.extended.proofs.Laws.{gate}
+use borrow.Author.Rules.{rules}
+use Rattle.extended.proofs.Laws.{on_float_lem, no_int_lem}
 use Rattle.extended.proofs.negate.Goals as goal
 
-pub returns-in-Some : goal.returns-in-Some
-returns-in-Some c = search gate
-
-pub returns-in_default-as_float : goal.returns-in_default-as_float
-returns-in_default-as_float c = search gate
-
 pub returns : goal.returns
-returns c = search gate
+returns c = no_int_lem _ c.only_int.ensures c.in_default.is (on_float_lem _ _ (λ x h. search rules) c.on_float.ensures)

@@ -1,12 +1,12 @@
 -- `extended::sqrt` meets its contract.
-use Rattle.extended.proofs.Laws.{gate}
+use native.Mathlib.Omega.{arith}
+use lib.Ieee.{Float}
+use Rattle.root.specs.Sqrt.{sqrt_of}
+use Rattle.std.proofs.lemmas.Grind.{common_steps}
+use Rattle.extended.specs.Extended.{float, on_float}
+use Rattle.extended.proofs.Laws.{on_float_lem}
 use Rattle.extended.proofs.sqrt.Goals as goal
 
-pub returns-in_default : goal.returns-in_default
-returns-in_default c = search gate
-
-pub returns-in_default-sqrt : goal.returns-in_default-sqrt
-returns-in_default-sqrt c = search gate
-
 pub returns : goal.returns
-returns c = search gate
+unfolding on_float
+returns c = on_float_lem _ (λ (x : Float). on_float (sqrt_of x) float) (λ x h. grind (arith, common_steps)) c.on_float.ensures

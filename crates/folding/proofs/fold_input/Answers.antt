@@ -1,16 +1,17 @@
 -- `folding::fold_input` meets its contract.
-use mathlib.Core.Path.{sym, ap, ap₂, ◌∙◌}
-use Rattle.graph.specs.Refusals.{report_of, refusal}
 use Rattle.model.specs.Outcome.{fold_bytes}
-use Rattle.propagation.proofs.Accepted.{refused_is}
+use Rattle.propagation.proofs.Accepted.{refused_is, err_is}
 use Rattle.folding.proofs.Stages.{refuse_decode}
 use Rattle.folding.proofs.fold_input.Goals as goal
 
+pub invariant_of-records : goal.invariant_of-records
+invariant_of-records c = record { accepts = c.in_ok-counts.ensures.0 }
+
 pub fold_graph-requires : goal.fold_graph-requires
-fold_graph-requires c = (sym (ap report_of c.in-Accepted.is) ∙ c.decode.ensures.0, c.decode.ensures.1)
+fold_graph-requires c = c.in_ok-counts.ensures.1
 
-pub returns-in-Accepted : goal.returns-in-Accepted
-returns-in-Accepted c = c.fold_graph.ensures
+pub returns : goal.returns
+returns c = c.fold_graph.ensures
 
-pub returns-in-Refused : goal.returns-in-Refused
-returns-in-Refused c = refuse_decode fold_bytes (refused_is _ (ap₂ refusal c.number_of.ensures c.place_of.ensures ∙ (sym (ap report_of c.in-Refused.is) ∙ c.decode.ensures.0)))
+pub returns-in_err-counts : goal.returns-in_err-counts
+returns-in_err-counts c = rw (err_is _ _ c.from_residual.ensures.1) (refuse_decode fold_bytes _ (refused_is _ c.in_err-counts.ensures.0))

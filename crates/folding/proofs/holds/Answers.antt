@@ -19,8 +19,8 @@ module _ (size more room : ℕ) where
   over : room < more → false ≡ leb (size + more) room
   over h = sym (lt-leb (size + more) room (omega arith))
 
-pub returns-then-room-wires : goal.returns-then-room-wires
-returns-then-room-wires c words = over _ _ _ c.if-room-wires.true
+pub returns-then-wires-room : goal.returns-then-wires-room
+returns-then-wires-room c words = c.nodes_fit.ensures words ∙ moved _ _ _ c.if-wires-room.true
 
-pub returns : goal.returns
-returns c words = c.nodes_fit.ensures words ∙ moved _ _ _ c.if-room-wires.false
+pub returns-else-wires-room : goal.returns-else-wires-room
+returns-else-wires-room c words = lt-leb _ _ c.if-wires-room.false ∙ over _ _ _ c.if-wires-room.false

@@ -1,5 +1,4 @@
 -- `ieee::finite_remainder` meets its contract.
-use Rattle.std.proofs.Common.{lt_trans, mod-lt, arith}
 use denote.Floats.{passes}
 use lib.Ieee.{div, of_bits}
 use Rattle.ieee.proofs.Units.{rem_below, rem_positive, rem_negative, rem_by_zero}
@@ -12,11 +11,6 @@ returns-then-b-eq0 c = rem_by_zero _ _ _ _ _ _ _ _ c.decompose-a.ensures c.decom
 pub returns-then-a-b : goal.returns-then-a-b
 returns-then-a-b c =
     rem_below _ _ _ _ _ _ _ _ (passes _ c.well_formed.0.1) c.decompose-a.ensures c.decompose-b.ensures c.if-a-b.true
-
-pub scaled-magnitude-requires : goal.scaled-magnitude-requires
-scaled-magnitude-requires c =
-    let d = c.decompose-b in
-    (rw c.shl_mod-r.ensures (lt_trans (mod-lt _ (omega arith)) d.ensures.digits), d.ensures.exponent)
 
 pub returns-then-a : goal.returns-then-a
 returns-then-a c =

@@ -36,8 +36,5 @@ sign_bit nan n F h = ap (leb (2 ^ 63)) h
 sign_bit (inf s) n F h = of_number (inf s) n F h refl
 sign_bit (fin s m e) n F h = of_number (fin s m e) n F h refl
 
-pub to_bits-requires : goal.to_bits-requires
-to_bits-requires c = tt
-
 pub returns : goal.returns
 returns c = sign_bit _ _ (passes _ c.well_formed.0.1) c.to_bits.ensures

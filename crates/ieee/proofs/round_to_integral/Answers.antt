@@ -9,9 +9,6 @@ use Rattle.ieee.proofs.round_to_integral.Goals as goal
 pub round_positive-requires-then-x-2 : goal.round_positive-requires-then-x-2
 round_positive-requires-then-x-2 c = neg_positive _ c.if-x-2.true
 
-pub returns-then-x : goal.returns-then-x
-returns-then-x c = c.round_positive.ensures _
-
 pub returns-then-x-2 : goal.returns-then-x-2
 returns-then-x-2 c = ap neg (c.round_positive-then-x-2.ensures _) ∙ integral_neg _ _ _
 

@@ -1,13 +1,9 @@
 -- `ieee::scaled` meets its contract.
-use Rattle.std.proofs.Common.{◌^◌, ◌≤◌, false, zero-lt-suc, arith, le→leb, pow_pos}
-use lib.Ieee.{binary64, in_float, of_int, round}
+use Rattle.std.proofs.Common.{◌^◌, ◌≤◌, false, zero-lt-suc, arith, pow_pos}
+use lib.Ieee.{binary64, of_int, round}
 use lib.Ieee.Back.{round_whole}
 use Rattle.ieee.proofs.Units.{product}
 use Rattle.ieee.proofs.scaled.Goals as goal
-
-pub int_to_float-result : goal.int_to_float-result
-unfolding in_float
-int_to_float-result c = le→leb c.args.significand (2 ^ 53) (omega arith)
 
 pub returns : goal.returns
 unfolding of_int

@@ -2,6 +2,8 @@
 use Prim.Native.Nat.{◌+◌}
 use native.Mathlib.Omega.{arith}
 use mathlib.Core.Path.{◌≡◌, sym}
+use mathlib.Core.Bool.{false}
+use borrow.Author.Rules.{rules}
 use Rattle.graph.specs.Index.{Sound}
 use Rattle.graph.specs.Decode.{refusal_at}
 use Rattle.graph.specs.Layout.{role_at, size_at}
@@ -26,10 +28,9 @@ pub returns-then-input-gt-INPUT : goal.returns-then-input-gt-INPUT
 returns-then-input-gt-INPUT c = reports_long _ c.if-input-gt-INPUT.true
 
 pub loop-at-init : goal.loop-at-init
-loop-at-init c = start _
-
-pub check-requires : goal.check-requires
-check-requires c = (c.loop-at-test.true, rw c.loop-at.invariant.held.counts c.loop-at.invariant.few)
+loop-at-init c =
+    let e : c.default-counts.result ≡ record { nodes = 0; wires = 0; properties = 0; texts = 0; rows = 0; annihilators = 0; and_false = false; or_true = false } = search rules in
+    rw e (start _)
 
 pub returns-in-Some : goal.returns-in-Some
 returns-in-Some c =
@@ -37,19 +38,16 @@ returns-in-Some c =
     let n = rw c.in-Some.is at (c.check.ensures i.graph i.held) in
     reports_refused _ c.if-input-gt-INPUT.false _ _ _ _ i c.loop-at-test.true _ _ n.0 (positive c.in-Some.refusal) n.1
 
-pub bounds-input-at : goal.bounds-input-at
-bounds-input-at c = c.loop-at-test.true
-
-pub role_of-role-requires : goal.role_of-role-requires
-role_of-role-requires c = tt
+pub invariant_of-record : goal.invariant_of-record
+invariant_of-record c = record { whole = rw c.role_of-role.ensures (sound (goal.at.invariant_of-record c).In_default).whole }
 
 pub index-requires : goal.index-requires
 index-requires c =
     let p = passed _ _ _ _ (ok (goal.at.index-requires c).In_default) in
     let i = c.loop-at.invariant in
     record {
-      role_value = (c.role_of-role.ensures, p.whole, rw c.role_of-role.ensures (sound (goal.at.index-requires c).In_default));
-      at_bound = (omega (arith, c.loop-at-test.true, c.if-input-gt-INPUT.false), rw i.held.counts i.begun);
+      role_value = (c.role_of-role.ensures, p.whole);
+      at_bound = (omega (arith, c.loop-at-test.true, c.if-input-gt-INPUT.false), (c.loop-at.counts.nodes, rw c.role_of-role.ensures (sound (goal.at.index-requires c).In_default), rw i.held.counts i.begun));
     }
 
 pub count-counts-requires : goal.count-counts-requires
@@ -57,19 +55,6 @@ count-counts-requires c =
     let p = passed _ _ _ _ (ok (goal.at.count-counts-requires c).In_default) in
     let i = c.loop-at.invariant in
     (rw c.role_of-role.ensures (sound (goal.at.count-counts-requires c).In_default), rw (c.role_of-role.ensures, i.held.counts) p.fits, rw i.held.counts (omega (arith, i.few_annihilators, c.loop-at-test.true, c.if-input-gt-INPUT.false)), rw i.held.counts (few_texts i.graph.properties), c.role_of-role.ensures)
-
-pub body_of-size-requires : goal.body_of-size-requires
-body_of-size-requires c = tt
-
-pub overflow_add-size : goal.overflow_add-size
-overflow_add-size c =
-    let p = passed _ _ _ _ (ok (goal.at.overflow_add-size c).In_default) in
-    omega (arith, c.body_of-size.ensures, p.whole)
-
-pub overflow_add-at : goal.overflow_add-at
-overflow_add-at c =
-    let p = passed _ _ _ _ (ok (goal.at.overflow_add-at c).In_default) in
-    omega (arith, c.body_of-size.ensures, p.whole)
 
 pub read_same-run-requires : goal.read_same-run-requires
 read_same-run-requires c =
@@ -88,12 +73,6 @@ read_same-run-requires c =
             indexed = rw r at (c.index.ensures i.graph (rw r (passed _ _ _ _ (ok (goal.at.read_same-run-requires c).In_default)).new) i.held.indexed);
           })),
     )
-
-pub loop-at-smaller : goal.loop-at-smaller
-loop-at-smaller c = omega (arith, c.loop-at-test.true, c.read_same-run.ensures.scanned.0)
-
-pub loop-at-preserved : goal.loop-at-preserved
-loop-at-preserved c = c.read_same-run.ensures.scanned.1
 
 pub returns : goal.returns
 returns c = reports_accepted _ c.if-input-gt-INPUT.false _ _ _ _ c.loop-at.invariant c.loop-at-test.false

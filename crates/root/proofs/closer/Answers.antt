@@ -1,6 +1,5 @@
 -- `root::closer` meets its contract.
 use Prim.Native.Nat.{◌+◌, ◌*◌, ◌/◌, ◌^◌, ◌≤◌}
-use native.Mathlib.Nat.{le_trans, div-le_self}
 use native.Mathlib.Omega.{arith}
 use Rattle.root.specs.Steps.{Near}
 use Rattle.root.proofs.Newton.{step, at_most}
@@ -14,9 +13,6 @@ small c = at_most (2 ^ 32) (omega (arith, c.ranges.n.fits)) (near c)
 
 pub overflow_mul-result : goal.overflow_mul-result
 overflow_mul-result c = record { fits = omega (arith, small c) }
-
-pub overflow_mul-result-2 : goal.overflow_mul-result-2
-overflow_mul-result-2 c = let l = at_most (2 ^ 32) (le_trans (div-le_self c.args.n (4 * c.args.scale * c.args.scale)) (omega (arith, c.ranges.n.fits))) c.requires.0 in record { fits = omega (arith, c.requires.2) }
 
 pub overflow_add-result : goal.overflow_add-result
 overflow_add-result c = record { fits = omega (arith, small c) }

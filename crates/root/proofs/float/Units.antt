@@ -1,4 +1,5 @@
 -- Floats in units of the smallest one: every finite f64 of 2 ^ (52 + k) units or more is a multiple of 2 ^ k units; the root by its value.
+use Rattle.std.specs.Prelude.{None, Some}
 use mathlib.Core.Path.{◌≡◌, refl, sym, ap, ◌∙◌, subst}
 use mathlib.Core.Bool.{Bool, true, false, not, true≢false, false≢true}
 use Prim.Native.Nat.{ℕ, zero, suc, ◌+◌, ◌-◌, ◌*◌, ◌/◌, ◌^◌, ◌≤◌, ◌<◌}
@@ -12,7 +13,6 @@ use lib.Ieee.Fits.{up_pos, down_pos}
 use Rattle.ieee.specs.Finite.{finite_of}
 use Rattle.ieee.specs.Signs.{is_sign_minus}
 use Rattle.ieee.proofs.Units.{has_parts}
-use Rattle.whole.specs.declared.OptionFloat.{OptionFloat}
 use Rattle.root.specs.Sqrt.{units_of, rounded_root, sqrt_of, FiniteF64}
 
 -- x has the sign s and is a units in size
@@ -61,20 +61,20 @@ not_zero m a e z h = lt_irrefl 0 (subst (λ (x : ℕ). 0 < x) (h ∙ ap (λ (x :
 not_positive : (a : ℕ) (e : ℤ) → 0 < a → zero * up e * 2 ^ 1074 ≡ a * down e → ⊥
 not_positive a e p h = lt_irrefl 0 (subst (λ (x : ℕ). 0 < x) (sym h ∙ ap (λ (x : ℕ). x * 2 ^ 1074) (zero-mul (up e)) ∙ zero-mul (2 ^ 1074)) (mul-pos p (down_pos e)))
 
-pub no_root : (x : Float) → not (finite_of x) ≡ true → OptionFloat.None ≡ sqrt_of x
+pub no_root : (x : Float) → not (finite_of x) ≡ true → None ≡ sqrt_of x
 unfolding finite_of sqrt_of
 no_root nan h = refl
 no_root (inf s) h = refl
 no_root (fin s m e) h = absurd (false≢true h)
 
-pub zero_root : (x : Float) (s : Bool) (a : ℕ) → Units x s a → a ≡ 0 → OptionFloat.Some x ≡ sqrt_of x
+pub zero_root : (x : Float) (s : Bool) (a : ℕ) → Units x s a → a ≡ 0 → Some x ≡ sqrt_of x
 unfolding sqrt_of
 zero_root nan s a h z = absurd h
 zero_root (inf t) s a h z = absurd h
 zero_root (fin t zero e) s a h z = refl
 zero_root (fin t (suc m) e) s a h z = absurd (not_zero m a e z h.1)
 
-pub negative_root : (x : Float) (a : ℕ) → Units x true a → 0 < a → OptionFloat.None ≡ sqrt_of x
+pub negative_root : (x : Float) (a : ℕ) → Units x true a → 0 < a → None ≡ sqrt_of x
 unfolding sqrt_of
 negative_root nan a h p = absurd h
 negative_root (inf t) a h p = absurd h
@@ -82,10 +82,10 @@ negative_root (fin t zero e) a h p = absurd (not_positive a e p h.1)
 negative_root (fin true (suc m) e) a h p = refl
 negative_root (fin false (suc m) e) a h p = absurd (false≢true h.0)
 
-pub positive_root : (x : Float) (a : ℕ) → Units x false a → 0 < a → OptionFloat.Some (rounded_root a) ≡ sqrt_of x
+pub positive_root : (x : Float) (a : ℕ) → Units x false a → 0 < a → Some (rounded_root a) ≡ sqrt_of x
 unfolding sqrt_of
 positive_root nan a h p = absurd h
 positive_root (inf t) a h p = absurd h
 positive_root (fin t zero e) a h p = absurd (not_positive a e p h.1)
 positive_root (fin true (suc m) e) a h p = absurd (true≢false h.0)
-positive_root (fin false (suc m) e) a h p = ap (λ (u : ℕ). OptionFloat.Some (rounded_root u)) (sym (units_of_lem (fin false (suc m) e) false a h))
+positive_root (fin false (suc m) e) a h p = ap (λ (u : ℕ). Some (rounded_root u)) (sym (units_of_lem (fin false (suc m) e) false a h))

@@ -1,9 +1,9 @@
 -- `sheet_line::write_fate` meets its contract.
-use Rattle.sheet_line.proofs.Pieces.{letter_alone, letter_number, as_fate}
+use Rattle.sheet_line.proofs.Pieces.{letter_alone, letter_number, as_fate, bool_number}
 use Rattle.sheet_line.specs.declared.Fate.{Fate}
 use Prim.Native.Nat.{ℕ}
 use mathlib.Core.List.{[], ◌∷◌}
-use mathlib.Core.Path.{refl, sym, ap}
+use mathlib.Core.Path.{refl, sym, ap, ◌∙◌}
 use Rattle.sheet_line.proofs.write_fate.Goals as goal
 
 pub returns-in-Kept : goal.returns-in-Kept
@@ -19,7 +19,7 @@ pub returns-in-Float : goal.returns-in-Float
 returns-in-Float c = letter_number (Fate.Float _) c.in-Float.is _ refl c.write_one-in-Float.ensures
 
 pub returns-in-Bool : goal.returns-in-Bool
-returns-in-Bool c = letter_number (Fate.Bool _) c.in-Bool.is _ (ap (λ (n : ℕ). n ∷ []) (sym c.bool_number.ensures)) c.write_one-in-Bool.ensures
+returns-in-Bool c = letter_number (Fate.Bool _) c.in-Bool.is _ (ap (λ (n : ℕ). n ∷ []) (bool_number _ ∙ sym c.from.ensures)) c.write_one-in-Bool.ensures
 
 pub returns-in-Vector : goal.returns-in-Vector
 returns-in-Vector c = as_fate c.in-Vector.is c.write_vector.ensures

@@ -9,13 +9,13 @@ pub returns-in-Known : goal.returns-in-Known
 returns-in-Known c = adds_known _ _ _ _ _ c.requires _ _ _ _ c.in-Known.is c.learn.ensures
 
 pub returns-in-BecomeLiteral : goal.returns-in-BecomeLiteral
-returns-in-BecomeLiteral c = adds_literal _ _ _ _ _ c.requires _ _ _ _ _ _ c.in-BecomeLiteral.is c.learn-in-BecomeLiteral.ensures c.plan.ensures
+returns-in-BecomeLiteral c = adds_literal _ _ _ _ _ c.requires _ _ _ _ _ _ c.in-BecomeLiteral.is c.learn-in-BecomeLiteral.ensures c.put.ensures
 
 pub returns-in-ShortCircuit : goal.returns-in-ShortCircuit
-returns-in-ShortCircuit c = adds_short_circuit _ _ _ _ _ c.requires _ _ _ _ c.in-ShortCircuit.is c.plan-in-ShortCircuit.ensures
+returns-in-ShortCircuit c = adds_short_circuit _ _ _ _ _ c.requires _ _ _ _ c.in-ShortCircuit.is c.put-in-ShortCircuit.ensures
 
 pub returns-in-ShortCircuitKnown : goal.returns-in-ShortCircuitKnown
-returns-in-ShortCircuitKnown c = adds_short_circuit_known _ _ _ _ _ c.requires _ _ _ _ _ _ _ c.in-ShortCircuitKnown.is c.learn-in-ShortCircuitKnown.ensures c.plan-in-ShortCircuitKnown.ensures
+returns-in-ShortCircuitKnown c = adds_short_circuit_known _ _ _ _ _ c.requires _ _ _ _ _ _ _ c.in-ShortCircuitKnown.is c.learn-in-ShortCircuitKnown.ensures c.put-in-ShortCircuitKnown.ensures
 
 pub returns-in-Truncate : goal.returns-in-Truncate
-returns-in-Truncate c = adds_truncate _ _ _ _ _ c.requires _ _ _ _ c.in-Truncate.is (rw c.wide.ensures at c.plan-in-Truncate.ensures)
+returns-in-Truncate c = adds_truncate _ _ _ _ _ c.requires _ _ _ _ c.in-Truncate.is (rw c.from.ensures at c.put-in-Truncate.ensures)

@@ -1,30 +1,26 @@
 -- `sweep::sweep_dead_pure` meets its contract.
-use native.Mathlib.Omega.{arith}
-use mathlib.Core.Path.{refl}
-use Rattle.ir.specs.Limits.{max_nodes}
-use Rattle.sweep.proofs.Sweeps.{queued_start, sweep_start, sweep_ends}
+use mathlib.Core.Path.{◌≡◌, ◌∙◌}
+use Rattle.sweep.specs.Queue.{Within, Sweeping}
+use Rattle.records.specs.Access.{wires_of}
+use Rattle.sweep.proofs.Sweeps.{sweep_start, sweep_ends}
 use Rattle.sweep.proofs.sweep_dead_pure.Goals as goal
+use Rattle.sweep.proofs.sweep_dead_pure.Goals.{After-release_nodes, then-queue-gt0, else-queue-gt0}
 
-pub count_wires-requires : goal.count_wires-requires
-count_wires-requires c = c.requires.0
+same : (c : After-release_nodes) → c.release_nodes.new.self.eligible ≡ c.args.eligible
+same c = c.release_nodes.ensures.same ∙ (c.count_wires.ensures.same ∙ c.new-queue.ensures.same)
 
-pub release_nodes-found-requires : goal.release_nodes-found-requires
-release_nodes-found-requires c =
-    let d = c.count_wires.ensures in
-    (c.requires.0.few_nodes, λ n l. omega (arith, d.1 n (omega (arith, c.requires.0.few_nodes))), queued_start max_nodes refl d.0 (λ n l. omega (arith, d.1 n l)))
-
-pub returns-then-found-eq0 : goal.returns-then-found-eq0
-returns-then-found-eq0 c =
-    let P = c.requires in
-    sweep_ends P.1 (sweep_start P.0.few_nodes c.count_wires.ensures.1 c.release_nodes-found.ensures) P.0.few_nodes (omega (arith, c.if-found-eq0.true))
-
-pub link_targets-requires : goal.link_targets-requires
-link_targets-requires c = c.requires.0
+started : (c : After-release_nodes) → Sweeping c.args.wires.now.nodes (wires_of c.args.wires.now.records.now) c.release_nodes.new.self.eligible.now c.release_nodes.new.self.degrees c.release_nodes.new.self.order 0 c.release_nodes.new.self.tail
+started c = sweep_start c.args.wires.now.bounded.few_nodes c.count_wires.ensures.degrees c.release_nodes.ensures.fell
 
 pub remove_nodes-requires : goal.remove_nodes-requires
 remove_nodes-requires c =
-    let P = c.requires in
-    (P.0, c.link_targets.ensures, P.1, sweep_start P.0.few_nodes c.count_wires.ensures.1 c.release_nodes-found.ensures)
+    let r = (goal.at.remove_nodes-requires c).After-release_nodes in
+    (c.link_targets.ensures, rw (same r) c.requires, started r)
 
 pub returns : goal.returns
-returns c = c.remove_nodes.ensures
+returns c =
+    let r = (goal.at.returns c).After-release_nodes in
+    elim c.if-queue-gt0.branch [
+      | then-queue-gt0 w ↦ rw w.queue-is (rw (same r) at w.remove_nodes.ensures)
+      | else-queue-gt0 w ↦ rw w.queue-is (rw (same r) at (sweep_ends (rw (same r) c.requires) c.release_nodes.new.self.queued (started r) c.args.wires.now.bounded.few_nodes w.if-queue-gt0.false))
+    ]

@@ -1,26 +1,19 @@
-use mathlib.Core.Path.{◌≡◌, ap, ◌∙◌}
-use Prim.Native.Nat.{ℕ, ◌<◌, ◌≤◌, ◌^◌}
-use native.Mathlib.Omega.{arith}
-use lib.Count.{ones, ones-le}
+-- `whole::bit_count` meets its contract.
+use mathlib.Core.Path.{ap, ◌∙◌}
+use lib.Count.{ones}
 use lib.IntN.{pos}
 use mir.Syntax.{w64}
 use mir.Val.{of_z}
 use mir.Facts.{to_z-of_z}
-use mir.ValLaws.{of_z_fits, to_z_pos}
+use mir.ValLaws.{of_z_fits}
 use Rattle.whole.proofs.Bits.{ones_sum}
 use Rattle.whole.proofs.bit_count.Goals as goal
 
-bits : (c : goal.After-to_bits) → c.to_bits.result ≡ of_z w64 c.args.n
-bits c = c.to_bits.ensures ∙ ap (of_z w64) (to_z-of_z c.ranges.n)
-
-below : (c : goal.After-to_bits) → of_z w64 c.args.n < 2 ^ 64
-below c = (of_z_fits w64 _ c.ranges.n).fits
-
-few : (n : ℕ) → n < 2 ^ 64 → ones n < 2 ^ 63
-few n h = let k : ones n ≤ 64 = ones-le 64 n h in omega arith
-
-pub overflow_cast-result : goal.overflow_cast-result
-overflow_cast-result c = record { sfits = few _ (omega arith) }
-
 pub returns : goal.returns
-returns c = to_z_pos w64 _ (few _ (omega arith)) ∙ ap pos (ap ones (bits c) ∙ ones_sum 64 _ (below c))
+returns c =
+    to_z-of_z {w = w64} (record { sfits = c.from.type_inv })
+    ∙ c.from.ensures
+    ∙ ap pos
+    (c.count_ones.ensures.value
+    ∙ ap (λ z. ones (of_z w64 z)) (to_z-of_z c.ranges.n)
+    ∙ ones_sum 64 _ (of_z_fits w64 _ c.ranges.n).fits)

@@ -1,10 +1,16 @@
+-- `whole::int_of_bool` meets its contract.
+use mathlib.Core.Path.{◌≡◌, refl, ap, ◌∙◌}
+use mathlib.Core.Bool.{Bool, true, false}
+use lib.IntN.{pos}
+use mir.Val.{bool_byte}
 use Rattle.whole.specs.Convert.{int_of_bool}
+use Rattle.whole.proofs.Laws.{read_back}
 use Rattle.whole.proofs.int_of_bool.Goals as goal
 
-pub returns-then-b : goal.returns-then-b
+by_cases : (b : Bool) → read_back (pos (bool_byte b)) ≡ int_of_bool b
 unfolding int_of_bool
-returns-then-b c = rw c.if-b.true
+by_cases false = refl
+by_cases true = refl
 
-pub returns-else-b : goal.returns-else-b
-unfolding int_of_bool
-returns-else-b c = rw c.if-b.false
+pub returns : goal.returns
+returns c = ap read_back c.from.ensures ∙ by_cases c.args.b

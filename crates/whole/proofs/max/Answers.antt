@@ -1,11 +1,16 @@
-use Rattle.whole.proofs.Laws.{read₂}
+-- `whole::max` meets its contract.
+use mathlib.Core.Path.{◌∙◌}
+use mir.Syntax.{w64}
+use mir.Facts.{to_z-of_z}
 use Rattle.whole.specs.Compare.{max_of}
+use Rattle.whole.proofs.Laws.{read₂}
+use Rattle.whole.proofs.Order.{max_of_swapped}
 use Rattle.whole.proofs.max.Goals as goal
 
-pub returns-then-a-b : goal.returns-then-a-b
+pub returns : goal.returns
 unfolding max_of
-returns-then-a-b c = rw c.if-a-b.true at (read₂ max_of c.ranges.a c.ranges.b)
-
-pub returns-else-a-b : goal.returns-else-a-b
-unfolding max_of
-returns-else-a-b c = rw c.if-a-b.false at (read₂ max_of c.ranges.a c.ranges.b)
+returns c =
+    to_z-of_z {w = w64} (record { sfits = c.max.type_inv })
+    ∙ c.max.ensures.value
+    ∙ read₂ (λ a b. max_of b a) c.ranges.a c.ranges.b
+    ∙ max_of_swapped c.args.b c.args.a

@@ -1,11 +1,11 @@
-use Rattle.whole.proofs.Laws.{read₂}
+-- `whole::min` meets its contract.
+use mathlib.Core.Path.{◌∙◌}
+use mir.Syntax.{w64}
+use mir.Facts.{to_z-of_z}
 use Rattle.whole.specs.Compare.{min_of}
+use Rattle.whole.proofs.Laws.{read₂}
 use Rattle.whole.proofs.min.Goals as goal
 
-pub returns-then-b-a : goal.returns-then-b-a
+pub returns : goal.returns
 unfolding min_of
-returns-then-b-a c = rw c.if-b-a.true at (read₂ min_of c.ranges.a c.ranges.b)
-
-pub returns-else-b-a : goal.returns-else-b-a
-unfolding min_of
-returns-else-b-a c = rw c.if-b-a.false at (read₂ min_of c.ranges.a c.ranges.b)
+returns c = to_z-of_z {w = w64} (record { sfits = c.min.type_inv }) ∙ c.min.ensures.value ∙ read₂ min_of c.ranges.a c.ranges.b

@@ -1,18 +1,10 @@
-use mathlib.Core.Path.{sym, ◌∙◌}
-use Rattle.whole.proofs.Checked.{by_zero, overflow, division, remainder}
+-- `whole::rem` meets its contract.
+use mir.Facts.{to_z-of_z}
+use Rattle.whole.proofs.Checked.{by_zero, division_reported}
 use Rattle.whole.proofs.rem.Goals as goal
 
-pub returns-then-is_zero : goal.returns-then-is_zero
-returns-then-is_zero c = by_zero c.ranges.a c.ranges.b _ (sym c.is_zero.ensures ∙ c.if-is_zero.true)
+pub returns-then-b-eq0 : goal.returns-then-b-eq0
+returns-then-b-eq0 c = by_zero c.ranges.a c.ranges.b _ c.if-b-eq0.true
 
-pub nonzero_rem-result : goal.nonzero_rem-result
-nonzero_rem-result c =
-    division c.ranges.a c.ranges.b (sym c.is_zero.ensures ∙ c.if-is_zero.false) (sym c.division_overflows.ensures ∙ c.if-division_overflows.false)
-
-pub returns-then-division_overflows : goal.returns-then-division_overflows
-returns-then-division_overflows c =
-    overflow c.ranges.a c.ranges.b (sym c.is_zero.ensures ∙ c.if-is_zero.false) _ (sym c.division_overflows.ensures ∙ c.if-division_overflows.true)
-
-pub returns-else-division_overflows : goal.returns-else-division_overflows
-returns-else-division_overflows c =
-    remainder c.ranges.a c.ranges.b (sym c.is_zero.ensures ∙ c.if-is_zero.false) (sym c.division_overflows.ensures ∙ c.if-division_overflows.false)
+pub returns-else-b-eq0 : goal.returns-else-b-eq0
+returns-else-b-eq0 c = division_reported c.ranges.a c.ranges.b _ _ c.if-b-eq0.false (rw (to_z-of_z c.ranges.a, to_z-of_z c.ranges.b) at c.checked_rem.ensures)

@@ -1,35 +1,9 @@
 -- `encoding::numbers::write_u64` meets its contract.
-use native.Mathlib.Omega.{arith}
-use lib.ListN.{length-set}
-use borrow.Author.Rules.{rules}
+use mathlib.Core.Path.{refl, ◌∙◌}
 use Rattle.encoding.specs.Numbers.{bytes_of}
-use Rattle.encoding.proofs.Splices.{stored_8}
+use Rattle.encoding.proofs.Splices.{part_written, low_bytes}
 use Rattle.encoding.proofs.numbers.write_u64.Goals as goal
-
-pub bounds-out-at-2 : goal.bounds-out-at-2
-bounds-out-at-2 c = simp length-set (omega arith)
-
-pub bounds-out-at-3 : goal.bounds-out-at-3
-bounds-out-at-3 c = simp length-set (omega arith)
-
-pub bounds-out-at-4 : goal.bounds-out-at-4
-bounds-out-at-4 c = simp length-set (omega arith)
-
-pub bounds-out-at-5 : goal.bounds-out-at-5
-bounds-out-at-5 c = simp length-set (omega arith)
-
-pub bounds-out-at-6 : goal.bounds-out-at-6
-bounds-out-at-6 c = simp length-set (omega arith)
-
-pub bounds-out-at-7 : goal.bounds-out-at-7
-bounds-out-at-7 c = simp length-set (omega arith)
-
-pub bounds-out-at-8 : goal.bounds-out-at-8
-bounds-out-at-8 c = simp length-set (omega arith)
-
-pub shape_of-out : goal.shape_of-out
-shape_of-out c = simp length-set
 
 pub returns : goal.returns
 unfolding bytes_of
-returns c = stored_8 _ _ _ _ _ _ _ _ _ _ (search rules)
+returns c = part_written c.args.out.now c.args.at _ (c.copy_from_slice.ensures.after ∙ c.to_le_bytes.ensures ∙ low_bytes c.args.x) refl

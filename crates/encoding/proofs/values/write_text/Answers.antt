@@ -16,5 +16,5 @@ unfolding bytes_of
 returns c =
     let v = c.write_byte-past_length.ensures in
     let w = c.write_u64-past_low.ensures in
-    rw (← c.length_of-length.ensures)
+    rw (← c.length_of.ensures)
     (written_more v c.requires (written_more w (omega (arith, v.past, written_length v (omega arith))) c.write_u64.ensures))

@@ -14,30 +14,16 @@ pub write_head-past_node-requires : goal.write_head-past_node-requires
 unfolding bytes_of
 write_head-past_node-requires c = omega (arith, c.requires.1)
 
-pub write_byte-past_port-requires : goal.write_byte-past_port-requires
-unfolding bytes_of
-write_byte-past_port-requires c =
-    let w = c.write_head-past_node.ensures in
-    omega (arith, c.requires.1, w.past, written_length w (omega (arith, c.requires.1)))
-
-pub write_bytes-requires : goal.write_bytes-requires
-unfolding bytes_of
-write_bytes-requires c =
-    let v = c.write_head-past_node.ensures in
-    let w = c.write_byte-past_port.ensures in
-    let first = written_length v (omega (arith, c.requires.1)) in
-    (c.requires.0, omega (arith, c.requires.1, v.past, first, w.past, written_length w (omega (arith, c.requires.1, v.past, first))))
-
 pub returns : goal.returns
 unfolding bytes_of
 returns c =
     let a = c.args in
-    let kind = kind_held a.w.a a.w.b a.w.c a.w.d a.kind c.requires.0 in
+    let kind = kind_held a.words.a a.words.b a.words.c a.words.d a.kind c.requires.0 in
     let v = c.write_head-past_node.ensures in
     let w = c.write_byte-past_port.ensures in
     let given = c.write_bytes.ensures in
     let first = written_length v (omega (arith, c.requires.1)) in
     let all =
-    same_written (ap (λ k. head_bytes k a.node ++ (a.port ∷ value_bytes (held_by a.kind a.w))) (sym kind))
+    same_written (ap (λ k. head_bytes k a.node ++ (a.port ∷ value_bytes (held_by a.kind a.words))) (sym kind))
     (written_more v (omega (arith, c.requires.1)) (written_more w (omega (arith, c.requires.1, v.past, first)) given.written)) in
     record { written = all; back = property_back c.requires.1 all {past = c.write_byte-past_port.result} (omega (arith, v.past, w.past)) _ kind given.back }

@@ -2,14 +2,13 @@
 use Prim.Native.Nat.{ℕ}
 use native.Mathlib.Omega.{arith}
 use mathlib.Core.Bool.{Bool, true, false≢true, ◌&&◌}
-use mathlib.Core.Path.{◌≡◌, refl, ◌∙◌, sym, ap}
+use mathlib.Core.Path.{◌≡◌, refl, ◌∙◌, sym}
 use mathlib.Core.List.{List}
 use borrow.Author.Tests.{ne_eqb}
 use Rattle.ir.specs.Kinds.{text_kind}
 use Rattle.encoding.specs.Numbers.{byte}
 use Rattle.graph.specs.Questions.{has_listed_text}
-use Rattle.graph.specs.Layout.{size_by}
-use Rattle.graph.proofs.Roles.{size_by_lem, and_left, and_right}
+use Rattle.graph.proofs.Roles.{and_left, and_right}
 use Rattle.graph.proofs.Asked.{next_of, next_whole, next_tests, next_first}
 use Rattle.graph.proofs.question.is_next.Goals as goal
 
@@ -24,37 +23,14 @@ four a b d e h =
 no_text : (s : List ℕ) (at kind : ℕ) → byte s at ≡ kind → (kind ≡ text_kind → ⊥) → has_listed_text s at ≡ true
 no_text s at kind k n = rw (k, ne_eqb _ _ n) refl
 
-pub returns-then-s-at : goal.returns-then-s-at
-returns-then-s-at c =
-    record { next = λ e. absurd (false≢true e); every = λ g h n. absurd (omega (arith, next_whole c.requires.0 c.requires.1 g h n)) }
-
-pub returns-then-s-at-2 : goal.returns-then-s-at-2
-returns-then-s-at-2 c = record { next = λ e. absurd (false≢true e); every = λ g h n. absurd (c.if-s-at-2.true n.kind_byte) }
-
-pub is_listed-listed-requires : goal.is_listed-listed-requires
-is_listed-listed-requires c = omega (arith, ap size_by c.requires.0, size_by_lem c.args.kind)
-
-pub orders_no_text-ordered-requires : goal.orders_no_text-ordered-requires
-orders_no_text-ordered-requires c = omega (arith, ap size_by c.requires.0, size_by_lem c.args.kind)
-
-pub has_nodes-present-requires : goal.has_nodes-present-requires
-has_nodes-present-requires c = omega (arith, ap size_by c.requires.0, size_by_lem c.args.kind)
+pub returns-then-s-at-clause-every : goal.returns-then-s-at-clause-every
+returns-then-s-at-clause-every c = λ g h n. absurd (omega (arith, next_whole c.requires.0 c.requires.1 g h n))
 
 pub returns-then-not-listed-ordered : goal.returns-then-not-listed-ordered
 returns-then-not-listed-ordered c =
     record {
       next = λ e. absurd (false≢true e);
       every = λ g h n. absurd (false≢true (sym c.if-not-listed-ordered.true ∙ next_tests c.requires.0 c.requires.1 g h n c.is_listed-listed.ensures c.orders_no_text-ordered.ensures c.has_nodes-present.ensures c.has_room.ensures));
-    }
-
-pub is_first-requires : goal.is_first-requires
-is_first-requires c =
-    let t = four _ _ _ _ c.if-not-listed-ordered.false in
-    record {
-      whole = omega (arith, ap size_by c.requires.0, size_by_lem c.args.kind);
-      listed = sym c.is_listed-listed.ensures ∙ t.0;
-      there = sym c.has_nodes-present.ensures ∙ t.2;
-      few = c.requires.3;
     }
 
 pub returns : goal.returns

@@ -1,23 +1,13 @@
 -- `resolve::gates::try_resolve_gate` meets its contract.
 use mathlib.Core.Path.{sym}
-use Rattle.resolve.proofs.Trials.{inputs, becomes_literal}
+use Rattle.resolve.proofs.Trials.{becomes_literal}
 use Rattle.resolve.proofs.GateValues.{gate_settled, gate_evaluated, same_value}
 use mathlib.Core.Path.{refl}
 use Rattle.resolve.proofs.gates.try_resolve_gate.Goals as goal
 
-pub evaluate-requires : goal.evaluate-requires
-evaluate-requires c =
-    let p = c.requires in
-    (inputs p.0, p.1, p.0.row_cells, p.2)
-
-pub settle_gate-requires : goal.settle_gate-requires
-settle_gate-requires c =
-    let p = c.requires in
-    (inputs p.0, p.1, p.0.counts)
-
 pub returns-in_default : goal.returns-in_default
 returns-in_default c =
-    same_value _ _ c.args.class _ (gate_settled _ _ _ c.evaluate.result c.evaluate.ensures _ c.in_default.is refl) c.settle_gate.ensures
+    same_value _ _ c.args.gate.class _ (gate_settled _ _ _ c.evaluate.result c.evaluate.ensures _ c.in_default.is refl) c.settle_gate.ensures
 
 pub returns : goal.returns
 returns c =

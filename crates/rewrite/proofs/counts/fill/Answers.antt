@@ -1,21 +1,30 @@
 -- `rewrite::counts::fill` meets its contract.
-use Prim.Native.Nat.{ℕ}
-use mathlib.Core.Path.{ap, ◌∙◌}
-use lib.ListN.{length, length-replicate}
-use Rattle.ir.specs.Limits.{max_nodes}
-use Rattle.rewrite.specs.Search.{unseen}
+use native.Mathlib.Omega.{arith}
+use Rattle.std.proofs.Common.{rules}
+use mathlib.Core.Bool.{◌&&◌}
+use lib.Dec.{ltb}
+use Rattle.records.specs.Access.{wires_of}
+use Rattle.rewrite.specs.Counts.{count_in}
+use Rattle.rewrite.specs.Linked.{leaves, takes_from, Linked}
 use Rattle.rewrite.proofs.Counting.{counts_none}
-use Rattle.rewrite.proofs.Linking.{within, later_start, linked_start, live_end, live_none}
+use Rattle.rewrite.proofs.Linking.{later_start, taken_end, live_end, live_none}
 use Rattle.rewrite.proofs.counts.fill.Goals as goal
+use Rattle.rewrite.proofs.counts.fill.Goals.{After-link_all}
+
+linked : (c : After-link_all) → Linked (wires_of c.args.wires.now.records.now) (leaves (λ w. takes_from c.args.plan.now.actions c.args.plan.now.details w.source)) c.link_all.new.chains.first c.link_all.new.chains.next 0
+linked c = c.link_all.ensures (λ w. takes_from c.args.plan.now.actions c.args.plan.now.details w.source) (λ w r p. search rules)
+
+pub returns-then-not-has_action : goal.returns-then-not-has_action
+returns-then-not-has_action c = (counts_none _ _ _ _ c.requires c.args.wires.now.bounded.few_nodes _ c.told-counts (c.has_action.ensures.nowhere c.if-not-has_action.true), live_none _ _ _ _ c.requires c.args.wires.now.bounded.few_nodes _ _ _ (omega arith) (later_start _) (c.has_action.ensures.nowhere c.if-not-has_action.true))
+
+pub link_all-requires-clause-later : goal.link_all-requires-clause-later
+link_all-requires-clause-later c = later_start _
 
 pub count_all-requires : goal.count_all-requires
-count_all-requires c = (c.requires.0, c.requires.1, c.clear.ensures, c.clear-2.ensures, rw c.clear_next.ensures (later_start _))
+count_all-requires c = (c.requires, taken_end _ _ _ _ c.requires c.args.wires.now.bounded.few_nodes _ _ (linked (goal.at.count_all-requires c).After-link_all))
 
-pub link_all_live-requires : goal.link_all_live-requires
-link_all_live-requires c = (within _ _ c.requires.0, linked_start _ _ _ _ c.clear-then-has_action.ensures c.count_all.ensures.1)
+pub link_all-requires-2-clause-later : goal.link_all-requires-2-clause-later
+link_all-requires-2-clause-later c = (linked (goal.at.link_all-requires-2-clause-later c).After-link_all).later
 
-pub returns-then-has_action : goal.returns-then-has_action
-returns-then-has_action c = (c.count_all.ensures.0, live_end _ _ _ _ c.requires.1 c.requires.0.few_nodes _ _ _ c.link_all_live.ensures)
-
-pub returns-else-has_action : goal.returns-else-has_action
-returns-else-has_action c = (counts_none _ _ _ _ c.requires.1 c.requires.0.few_nodes _ (ap length c.clear.ensures ∙ length-replicate {A = ℕ} max_nodes unseen) (c.has_action.ensures.nowhere c.if-has_action.false), live_none _ _ _ _ c.requires.1 c.requires.0.few_nodes _ _ _ c.clear-2.ensures (rw c.clear_next.ensures (later_start _)) (c.has_action.ensures.nowhere c.if-has_action.false))
+pub returns : goal.returns
+returns c = (c.count_all.ensures, live_end _ _ _ _ c.requires c.args.wires.now.bounded.few_nodes _ _ _ (c.link_all-2.ensures (λ w. takes_from c.args.plan.now.actions c.args.plan.now.details w.source && ltb 0 (count_in c.args.plan.now.actions c.count_all.new.counts w.target)) (λ w r p. search rules)))

@@ -4,8 +4,8 @@ use Rattle.records.specs.Access.{wires_of}
 use Rattle.rewrite.proofs.Walking.{Walking, ahead}
 use Rattle.rewrite.proofs.counts.walk.Given as goal
 
-abbrev pub invariant-loop-at : goal.invariant-loop-at
-invariant-loop-at l = Walking (wires_of l.wires) l.actions l.counts l.next l.code l.sum l.at l.total
+abbrev pub invariant-loop-code : goal.invariant-loop-code
+invariant-loop-code l = Walking (wires_of l.wires.records.now) l.actions l.counts l.next l.fn.from.code l.fn.from.sum l.code l.sum
 
-abbrev pub decreases-loop-at : goal.decreases-loop-at
-decreases-loop-at l = ahead (length (wires_of l.wires)) l.at
+abbrev pub decreases-loop-code : goal.decreases-loop-code
+decreases-loop-code l = ahead (length (wires_of l.wires.records.now)) l.code

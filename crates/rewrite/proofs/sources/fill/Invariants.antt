@@ -7,8 +7,7 @@ use Rattle.rewrite.proofs.sources.fill.Given as goal
 
 abbrev pub invariant-loop-far : goal.invariant-loop-far
 invariant-loop-far l =
-    Traced (wires_of l.wires) l.actions l.sources × (0 < l.far) × Jumped (wires_of l.wires) l.actions l.details l.sources l.far
+    Traced (wires_of l.wires.records.now) l.plan.actions l.sources × (0 < l.far) × Jumped (wires_of l.wires.records.now) l.plan.actions l.plan.details l.sources l.far
 
 abbrev pub decreases-loop-far : goal.decreases-loop-far
-decreases-loop-far l =
-    l.nodes - l.far
+decreases-loop-far l = l.wires.nodes - l.far

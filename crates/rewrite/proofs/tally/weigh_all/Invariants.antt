@@ -1,6 +1,5 @@
 -- `rewrite::tally::weigh_all` meets its contract.
--- the count after the wire
-use Prim.Native.Nat.{◌-◌, ◌*◌, ◌≤◌}
+use Prim.Native.Nat.{◌*◌, ◌≤◌}
 use Rattle.records.specs.Access.{wires_of}
 use Rattle.model.specs.TargetCounts.{cap}
 use Rattle.rewrite.proofs.Tallying.{Scanning}
@@ -8,7 +7,4 @@ use Rattle.rewrite.proofs.tally.weigh_all.Given as goal
 
 abbrev pub invariant-loop-i : goal.invariant-loop-i
 invariant-loop-i l =
-    (l.count ≤ 4097 * l.i) × Scanning (wires_of l.wires) l.actions l.sources l.counts l.i (cap l.count)
-
-abbrev pub decreases-loop-i : goal.decreases-loop-i
-decreases-loop-i l = l.wire_count - l.i
+    (l.count ≤ 4097 * l.i) × Scanning (wires_of l.wires.records.now) l.plan.actions l.rewrites.sources l.rewrites.counts l.i (cap l.count)

@@ -2,19 +2,15 @@
 use mathlib.Core.Path.{sym, subst}
 use Prim.Native.Nat.{ℕ, ◌+◌, ◌-◌, ◌%◌}
 use native.Mathlib.Omega.{arith}
-use lib.Count.{leading_le}
 use Rattle.root.specs.Steps.{EvenShift}
 use Rattle.root.proofs.Shifts.{zeros_least, even_shift}
 use Rattle.root.proofs.float.even_shift.Goals as goal
 
-pub overflow_add-result : goal.overflow_add-result
-overflow_add-result c = omega (arith, c.wide-zeros.ensures, leading_le 64 c.args.significand)
-
 pub overflow_sub-result : goal.overflow_sub-result
-overflow_sub-result c = omega (arith, c.wide-zeros.ensures, zeros_least c.args.significand c.requires.0 c.requires.1)
+overflow_sub-result c = omega (arith, c.from-zeros.ensures, zeros_least c.args.significand c.requires.0 c.requires.1)
 
 pub returns : goal.returns
 returns c =
     let m = c.args.significand in
     let e = c.args.exponent in
-    subst (λ (z : ℕ). EvenShift m e (z - (e % 2 + z) % 2)) (sym c.wide-zeros.ensures) (even_shift m e c.requires.0 c.requires.1)
+    subst (λ (z : ℕ). EvenShift m e (z - (e % 2 + z) % 2)) (sym c.from-zeros.ensures) (even_shift m e c.requires.0 c.requires.1)

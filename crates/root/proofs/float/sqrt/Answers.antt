@@ -1,4 +1,5 @@
 -- `root::float::sqrt` meets its contract.
+use Rattle.std.specs.Prelude.{Option, None, Some}
 use mathlib.Core.Path.{◌≡◌, sym, ap, ◌∙◌, subst}
 use mathlib.Core.Bool.{Bool, true, false, not, true≢false}
 use Prim.Native.Nat.{ℕ, ◌*◌, ◌^◌, ◌<◌}
@@ -9,26 +10,25 @@ use lib.Ieee.{Float}
 use denote.Floats.{passes}
 use Rattle.ieee.specs.Finite.{finite_of}
 use Rattle.ieee.specs.Parts.{PartsOf}
-use Rattle.whole.specs.declared.OptionFloat.{OptionFloat}
 use Rattle.root.specs.Sqrt.{rounded_root, sqrt_of, FiniteF64, NearestRoot}
 use Rattle.root.proofs.float.Units.{units_of_lem, sign_of, no_root, zero_root, negative_root, positive_root}
 use Rattle.root.proofs.float.Near.{zero_nearest, positive_nearest, only_nearest}
 use Rattle.root.proofs.float.sqrt.Goals as goal
 
 -- what is ensured: of None, where no float is nearest, and of a root that is
-abbrev Ensured : Float → OptionFloat → Type 0
-Ensured x r = (r ≡ sqrt_of x) × (((y : Float) → r ≡ OptionFloat.Some y → NearestRoot x y) × ((y : Float) → NearestRoot x y → r ≡ OptionFloat.Some y))
+abbrev Ensured : Float → Option Float → Type 0
+Ensured x r = (r ≡ sqrt_of x) × (((y : Float) → r ≡ Some y → NearestRoot x y) × ((y : Float) → NearestRoot x y → r ≡ Some y))
 
-without : (x : Float) → OptionFloat.None ≡ sqrt_of x → ((y : Float) → NearestRoot x y → ⊥) → Ensured x OptionFloat.None
+without : (x : Float) → None ≡ sqrt_of x → ((y : Float) → NearestRoot x y → ⊥) → Ensured x None
 without x e f = (e, ((λ y h. absurd (nothing h)), λ y n. absurd (f y n)))
   where
-    nothing : {y : Float} → OptionFloat.None ≡ OptionFloat.Some y → ⊥
+    nothing : {y : Float} → None ≡ Some y → ⊥
     nothing {y} e = let z : ◌≡◌ {A = ℕ} 0 1 = cc in omega arith
 
-with_root : (x v : Float) → OptionFloat.Some v ≡ sqrt_of x → NearestRoot x v → Ensured x (OptionFloat.Some v)
-with_root x v e n = (e, ((λ y h. given h), λ y q. ap OptionFloat.Some (only_nearest x y v q n)))
+with_root : (x v : Float) → Some v ≡ sqrt_of x → NearestRoot x v → Ensured x (Some v)
+with_root x v e n = (e, ((λ y h. given h), λ y q. ap Some (only_nearest x y v q n)))
   where
-    given : {y : Float} → OptionFloat.Some v ≡ OptionFloat.Some y → NearestRoot x y
+    given : {y : Float} → Some v ≡ Some y → NearestRoot x y
     given {y} h = let f : v ≡ y = cc in subst (λ (w : Float). NearestRoot x w) f n
 
 above_zero : (n : ℕ) → (n ≡ 0 → ⊥) → 0 < n
@@ -62,9 +62,6 @@ returns-then-parts c =
     let r = without x (negative_root x a v h) (λ y n. lt_irrefl 0 (subst (λ (u : ℕ). 0 < u) (sym (units_of_lem x true a v) ∙ n.not_negative (sign_of x true a v)) h)) in
     record { root = r.0; nearest = r.1.0; whenever = r.1.1 }
 
-pub root_bits-requires : goal.root_bits-requires
-root_bits-requires c = let d = c.decompose-parts.ensures in (above_zero _ c.if-parts-eq0.false, d.digits, d.exponent)
-
 pub returns : goal.returns
 returns c =
     let x = c.args.x in
@@ -72,6 +69,6 @@ returns c =
     let parts = subst (λ (s : Bool). PartsOf x s p.significand p.exponent) c.if-parts.false c.decompose-parts.ensures in
     let m = above_zero p.significand c.if-parts-eq0.false in
     let f : FiniteF64 x = record { f64 = passes _ c.well_formed.0.1; finite = sym c.is_finite.ensures ∙ c.if-not-is_finite.false } in
-    let r = subst (λ (v : Float). Ensured x (OptionFloat.Some v)) (sym (c.from_bits.ensures.value ∙ c.root_bits.ensures))
+    let r = subst (λ (v : Float). Ensured x (Some v)) (sym (c.from_bits.ensures.value ∙ c.root_bits.ensures))
     (with_root x (rounded_root (p.significand * 2 ^ p.exponent)) (positive_root x (p.significand * 2 ^ p.exponent) parts.value (mul-pos m (pow_pos p.exponent))) (positive_nearest x p.significand p.exponent f parts m)) in
     record { root = r.0; nearest = r.1.0; whenever = r.1.1 }

@@ -1,13 +1,7 @@
 -- `sweep::eligible::mark` meets its contract.
-use Prim.Native.Nat.{◌-◌}
 use Rattle.graph.specs.Decode.{graph_of}
 use Rattle.sweep.proofs.Marks.{Marking}
 use Rattle.sweep.proofs.eligible.mark.Given as goal
 
 abbrev pub invariant-loop-n : goal.invariant-loop-n
-invariant-loop-n l =
-    Marking (graph_of l.input) l.actions l.n l.eligible
-
-abbrev pub decreases-loop-n : goal.decreases-loop-n
-decreases-loop-n l =
-    l.nodes - l.n
+invariant-loop-n l = Marking (graph_of l.records.input.now) l.actions l.n l.eligible

@@ -1,13 +1,10 @@
 -- `sweep::fates::remove` meets its contract.
-use Prim.Native.Nat.{◌-◌}
-use Rattle.ir.specs.Limits.{max_nodes}
-use Rattle.sweep.proofs.Marks.{Removing}
+use mathlib.Core.Path.{◌≡◌}
+use mathlib.Core.Bool.{false, cond}
+use Prim.Native.Nat.{ℕ, ◌<◌}
+use lib.ListN.{get_or}
+use Rattle.sweep.specs.Queue.{taken_action}
 use Rattle.sweep.proofs.fates.remove.Given as goal
 
 abbrev pub invariant-loop-n : goal.invariant-loop-n
-invariant-loop-n l =
-    Removing l.taken l.actions l.n l.swept
-
-abbrev pub decreases-loop-n : goal.decreases-loop-n
-decreases-loop-n l =
-    max_nodes - l.n
+invariant-loop-n l = (n : ℕ) → n < l.n → get_or l.swept n 0 ≡ cond (get_or l.taken n false) taken_action (get_or l.actions n 0)

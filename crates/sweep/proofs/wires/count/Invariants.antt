@@ -1,5 +1,4 @@
 -- `sweep::wires::count` meets its contract.
-use Prim.Native.Nat.{◌-◌, ◌≤◌}
 use mathlib.Core.Path.{◌≡◌}
 use lib.ListN.{length, take}
 use Rattle.records.specs.Access.{wires_of}
@@ -8,9 +7,4 @@ use Rattle.sweep.specs.Queue.{stays_in}
 use Rattle.sweep.proofs.wires.count.Given as goal
 
 abbrev pub invariant-loop-i : goal.invariant-loop-i
-invariant-loop-i l =
-    (l.i ≤ l.all) × (l.left ≡ length (keep (stays_in l.taken) (take l.i (wires_of l.wires))))
-
-abbrev pub decreases-loop-i : goal.decreases-loop-i
-decreases-loop-i l =
-    l.all - l.i
+invariant-loop-i l = l.left ≡ length (keep (stays_in l.taken) (take l.i (wires_of l.wires.records.now)))

@@ -1,23 +1,20 @@
 -- `sweep::wires::write` meets its contract.
-use Rattle.records.proofs.Runs.{wires_length}
-use Rattle.answer.proofs.Fill.{fill_start, fill_long, fill_room, fill_next, fill_end}
-use Rattle.sweep.proofs.Stays.{staying_room, staying_each}
+use Prim.Native.Nat.{◌<◌}
+use lib.ListN.{length}
+use native.Mathlib.Omega.{arith}
+use Rattle.records.specs.Access.{wires_of}
+use Rattle.answer.proofs.Fill.{fill_start, fill_room, fill_next, fill_end}
+use Rattle.sweep.proofs.Stays.{staying_each, staying_room}
 use Rattle.sweep.proofs.wires.write.Goals as goal
 
 pub loop-i-init : goal.loop-i-init
-loop-i-init c =
-    fill_start _ _ _ _ (staying_room c.args.taken.now c.args.wires.now _ _ c.requires.1)
+loop-i-init c = fill_start _ _ _ _ (staying_room c.args.taken.now (wires_of c.args.wires.now.records.now) _ _ c.requires)
 
 pub write_one-past-requires : goal.write_one-past-requires
-write_one-past-requires c =
-    (c.requires.0, rw (wires_length c.args.wires.now) c.loop-i-test.true, fill_room c.loop-i.invariant c.loop-i-test.true)
+write_one-past-requires c = let h : c.loop-i.i < length (wires_of c.args.wires.now.records.now) = omega arith in (h, fill_room c.loop-i.invariant h)
 
 pub loop-i-preserved : goal.loop-i-preserved
-loop-i-preserved c = fill_next c.loop-i.invariant c.loop-i-test.true c.write_one-past.ensures
-
-pub shape_of-out : goal.shape_of-out
-shape_of-out c = fill_long c.loop-i.invariant
+loop-i-preserved c = fill_next c.loop-i.invariant (omega arith) c.write_one-past.ensures
 
 pub returns : goal.returns
-returns c =
-    rw (staying_each c.args.taken.now c.args.wires.now) at (fill_end c.loop-i.invariant c.loop-i-test.false)
+returns c = rw (staying_each c.args.taken.now (wires_of c.args.wires.now.records.now)) at (fill_end c.loop-i.invariant (omega arith))

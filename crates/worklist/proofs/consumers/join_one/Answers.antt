@@ -6,7 +6,7 @@ use Prim.Native.Nat.{◌<◌}
 use Rattle.model.specs.Worklist.{queue_places}
 use Rattle.worklist.proofs.Joining.{one_known, one_waits, one_place, one_joins}
 use Rattle.worklist.proofs.consumers.join_one.Goals as goal
-use Rattle.worklist.proofs.consumers.join_one.Goals.{Else-is_known}
+use Rattle.worklist.proofs.consumers.join_one.Goals.{Else-is_known, then-marks-c-via-then-marks-c, then-marks-c-via-else-marks-c+then-is_known}
 
 left : (c : Else-is_known) → c.args.count < queue_places
 left c =
@@ -14,10 +14,12 @@ left c =
     one_place [] _ _ _ _ _ p.1 p.0 c.if-marks-c.false
 
 pub returns-then-marks-c : goal.returns-then-marks-c
-returns-then-marks-c c = let p = c.requires in one_waits _ _ _ _ _ _ p.1 p.0 c.if-marks-c.true
-
-pub returns-then-is_known : goal.returns-then-is_known
-returns-then-is_known c = one_known _ _ _ _ _ _ c.requires.1 c.is_known.ensures c.if-is_known.true
+returns-then-marks-c c =
+    let p = c.requires in
+    elim c.then-marks-c.branch [
+      | then-marks-c-via-then-marks-c w ↦ one_waits _ _ _ _ _ _ p.1 p.0 w.if-marks-c.true
+      | then-marks-c-via-else-marks-c+then-is_known w ↦ one_known _ _ _ _ _ _ p.1 w.is_known.ensures w.if-is_known.true
+    ]
 
 pub push-requires : goal.push-requires
 push-requires c = let p = c.requires in (p.1.head_in, left (goal.at.push-requires c).Else-is_known, p.0)

@@ -1,0 +1,7 @@
+-- `records::access::Records::wires_offset` meets its contract.
+use native.Mathlib.Omega.{arith}
+use Rattle.records.proofs.Laid.{room}
+use Rattle.records.proofs.access.Records.wires_offset.Goals as goal
+
+pub overflow_mul-result : goal.overflow_mul-result
+overflow_mul-result c = omega (arith, room c.args.self.now)
