@@ -1,16 +1,18 @@
 -- The wires that stay, and the copy of all where nothing is planned.
-use mathlib.Core.Path.{◌≡◌, refl, sym, ap, ap₂, ◌∙◌, subst}
+use mathlib.Core.Path.{◌≡◌, refl, sym, ap, ◌∙◌, subst}
 use mathlib.Core.Bool.{cond}
 use mathlib.Core.List.{List, [], ◌∷◌, ◌++◌}
-use Prim.Native.Nat.{ℕ, ◌+◌, ◌-◌, ◌≤◌, ◌<◌}
+use Prim.Native.Nat.{ℕ, ◌+◌, ◌≤◌, ◌<◌}
+use native.Mathlib.Numerals.{add-one}
 use native.Mathlib.Omega.{arith}
 use lib.Dec.{eqb}
-use lib.ListN.{length, get_or, take}
-use lib.Seq.{take_all}
-use borrow.Rule.Slice.PartMut.{put_mid, Post-is}
+use lib.ListN.{length, get_or, set, take, length-append}
+use lib.Seq.{take-suc, take_all, length-take-le}
 use borrow.Author.Tests.{ne_eqb}
 use Rattle.ir.specs.Ports.{output}
-use Rattle.encoding.specs.Numbers.{splice, Written}
+use Rattle.encoding.specs.Numbers.{Written}
+use Rattle.encoding.proofs.Splices.{written_length, written_more, stored_1}
+use Rattle.answer.proofs.Fill.{written_none}
 use Rattle.encoding.specs.Wires.{wire_bytes}
 use Rattle.ir.specs.declared.Wire.{Wire}
 use Rattle.records.specs.Access.{wires_of, no_wire}
@@ -22,10 +24,30 @@ use Rattle.rewrite.proofs.KeptTargets.{kept_few, all_kept}
 use Rattle.emit.specs.Emit.{KeepsAll}
 use Rattle.emit.proofs.Writing.{by_number}
 
--- a run of bytes, copied at once
-pub written_part : (l bs : List ℕ) (at : ℕ) {ys : List ℕ} → ys ≡ bs → at + length bs ≤ length l → Written bs l (put_mid at (at + length bs - at) l ys) at (at + length bs)
-unfolding splice
-written_part l bs at y h = record { wrote = ap₂ (λ (b m : List ℕ). take at l ++ (b ++ m)) y (Post-is at (at + length bs) l (omega arith)); past = refl }
+-- the first i bytes are copied, of those that fit
+pub record Copying (bs l m : List ℕ) (at i : ℕ) : Type 0 where
+  pub within : i ≤ length bs
+  pub room : at + length bs ≤ length l
+  pub wrote : Written (take i bs) l m at (at + i)
+
+pub copy_start : (bs l : List ℕ) (at : ℕ) → at + length bs ≤ length l → Copying bs l l at 0
+copy_start bs l at h = record { within = omega arith; room = h; wrote = record { wrote = (written_none l at (omega arith)).wrote; past = omega arith } }
+
+module _ {bs l m : List ℕ} {at i : ℕ} (s : Copying bs l m at i) where
+  pub copy_long : length m ≡ length l
+  copy_long = written_length s.wrote (omega (arith, s.room, s.within, length-take-le i bs s.within))
+
+  pub copy_next : i < length bs → Copying bs l (set m (at + i) (get_or bs i 0)) at (i + 1)
+  copy_next h =
+      let e : take (i + 1) bs ≡ take i bs ++ (get_or bs i 0 ∷ []) = ap (λ (k : ℕ). take k bs) (add-one i) ∙ take-suc bs i 0 h in
+      let long : length (take i bs ++ (get_or bs i 0 ∷ [])) ≡ i + 1 = length-append (take i bs) (get_or bs i 0 ∷ []) ∙ omega (arith, length-take-le i bs s.within) in
+      let w = written_more s.wrote (omega (arith, s.room, long)) (stored_1 m (at + i) (get_or bs i 0) (omega (arith, s.room, copy_long))) in
+      record { within = omega arith; room = s.room; wrote = record { wrote = rw e w.wrote; past = rw e (omega (arith, long)) } }
+
+  pub copy_end : length bs ≤ i → Written bs l m at (at + length bs)
+  copy_end h =
+      let e : i ≡ length bs = omega (arith, s.within, h) in
+      rw e at (rw (take_all i bs h) at s.wrote)
 
 -- ---- the wires that stay
 

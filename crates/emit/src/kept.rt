@@ -49,6 +49,17 @@ fn write_wire(
     wire_records::write_wire(out, at, Wire { source, target })
 }
 
+// Copies wire records, byte by byte: `copy_from_slice` asks the host for memmove, which a board need not have.
+fn copy_wires(wires: &[u8], out: &mut [u8], at: usize) -> usize
+    requires { at + length wires.now ≤ length out.old }
+    ensures { Written wires.now out.old out.new at result }
+{
+    for k in 0..wires.len() {
+        out[at + k] = wires[k];
+    }
+    at + wires.len()
+}
+
 // Writes the wires into nodes that stay, one by one.
 fn write_each(wires: &Wires, actions: &[u8; limit::NODES], out: &mut [u8], at: usize) -> usize
     requires { KeepsAll wires.now.records.now wires.now.nodes at (length out.old) }
@@ -69,7 +80,5 @@ pub fn write_wires(wires: &Wires, actions: &[u8; limit::NODES], out: &mut [u8], 
     if state::any_above(actions, wires.nodes, KEPT) {
         return write_each(wires, actions, out, at);
     }
-    let past = at + wires.records.len();
-    out[at..past].copy_from_slice(wires.records);
-    past
+    copy_wires(wires.records, out, at)
 }

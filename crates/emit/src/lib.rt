@@ -17,7 +17,7 @@ use state::Plan;
 
 mod emission;
 pub mod kept;
-mod sharing;
+pub mod sharing;
 mod stack;
 
 // Writes the rewritten wires.

@@ -6,7 +6,7 @@ ghost use Rattle.sweep.specs.Eligible.{is_pure};
 ghost use Rattle.sweep.specs.Queue.{eligible_in, eligible_by, eligible_at};
 
 use ir::{class, flag, limit};
-use records::access::{self, Records};
+use records::access;
 use state::{BECOME_LITERAL, KEPT};
 
 // Whether a node of the class only gives a value.
@@ -33,20 +33,26 @@ fn is_eligible(class: u8, flags: u8, action: u8) -> bool
 }
 
 // Whether node n is eligible.
-fn node_eligible(records: &Records, actions: &[u8; limit::NODES], n: usize) -> bool
-    requires { (n < length (graph_of records.now.input.now).nodes) × (length (graph_of records.now.input.now).nodes ≤ max_nodes) }
-    ensures { result ≡ eligible_at (graph_of records.now.input.now) actions.now n }
+fn node_eligible(input: &[u8], actions: &[u8; limit::NODES], n: usize) -> bool
+    requires { (n < length (graph_of input.now).nodes) × (length (graph_of input.now).nodes ≤ max_nodes) }
+    ensures { result ≡ eligible_at (graph_of input.now) actions.now n }
 {
-    let node = access::node(records.input, n);
+    let node = access::node(input, n);
     is_eligible(node.class, node.flags, actions[n])
 }
 
 // Marks the eligible nodes.
-pub fn mark(records: &Records, actions: &[u8; limit::NODES], eligible: &mut [bool; limit::NODES])
-    ensures { (n : ℕ) → eligible_in eligible.new n ≡ eligible_at (graph_of records.now.input.now) actions.now n }
+pub fn mark(
+    input: &[u8],
+    nodes: usize,
+    actions: &[u8; limit::NODES],
+    eligible: &mut [bool; limit::NODES],
+)
+    requires { (nodes ≡ length (graph_of input.now).nodes) × (nodes ≤ max_nodes) }
+    ensures { (n : ℕ) → eligible_in eligible.new n ≡ eligible_at (graph_of input.now) actions.now n }
 {
     *eligible = [false; limit::NODES];
-    for n in 0..records.counts.nodes {
-        eligible[n] = node_eligible(records, actions, n);
+    for n in 0..nodes {
+        eligible[n] = node_eligible(input, actions, n);
     }
 }

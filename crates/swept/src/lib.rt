@@ -36,7 +36,7 @@ pub fn sweep_graph(
     ensures { Removes records.now.input.now actions.now wires.now.records.now swept.new taken.new }
 {
     let mut eligible = [false; limit::NODES];
-    sweep::eligible::mark(records, actions, &mut eligible);
+    sweep::eligible::mark(records.input, records.counts.nodes, actions, &mut eligible);
     sweep::sweep_dead_pure(wires, &eligible, taken);
     sweep::fates::remove(taken, actions, swept);
 }
