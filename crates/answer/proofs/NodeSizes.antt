@@ -98,6 +98,9 @@ module _ (i kind a b c d : ℕ) where
 
 -- ---- what is written of a node
 
+pub kind_low : (kind : ℕ) → role_of kind ≡ Property → kind ≤ 12
+kind_low = by_kind (λ k. k ≤ 12) (omega arith) (omega arith) (omega arith) (omega arith) (omega arith) (omega arith) (omega arith) (omega arith)
+
 pub bytes_none : (i : ℕ) (o : Option Value) → o ≡ None → known_bytes i o ≡ []
 unfolding known_bytes
 bytes_none i o e = rw e refl

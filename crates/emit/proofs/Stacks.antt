@@ -10,7 +10,7 @@ use lib.Dec.{eqb}
 use lib.ListN.{length, get_or, set, length-append, length-set}
 use lib.Seq.{get_or-set_same, get_or-set_other}
 use borrow.Author.Tests.{eqb-true}
-use Rattle.ir.specs.Limits.{max_nodes, max_wires}
+use Rattle.ir.specs.Limits.{max_wires}
 use Rattle.ir.specs.Ports.{exec}
 use Rattle.ir.specs.declared.PortRef.{PortRef}
 use Rattle.ir.specs.declared.Wire.{Wire}
@@ -267,8 +267,8 @@ module _ {ws : List Wire} {n : ℕ} {actions details first next stack₀ : List 
   q = shape_of ws actions details
 
   module _ {stack : List ℕ} {top i steps at : ℕ} (T : Tracks q n ws next stack₀ top₀ i₀ stack top i steps at) where
-    pub track_low : at < max_nodes
-    track_low = omega (arith, T.node, (N.bounded.named i T.inside).target, N.bounded.few_nodes)
+    pub track_low : at < n
+    track_low = omega (arith, T.node, (N.bounded.named i T.inside).target)
 
     at_node : get_or actions at 0 ≡ 3 → get_or actions (get_or ws i no_wire).target.node_id 0 ≡ 3
     at_node a = ap (λ (m : ℕ). get_or actions m 0) (sym T.node) ∙ a
@@ -287,8 +287,13 @@ module _ {ws : List Wire} {n : ℕ} {actions details first next stack₀ : List 
               ((down_step ws n actions details first next N (T.down ts s) (at_node a)).go_on stack' r (subst (λ (m : ℕ). Pushed stack stack' top (get_or next m 0) r) (e ∙ z) h));
         }
 
-    pub track_end : (get_or actions at 0 ≡ 3 → ⊥) → (ts : List PortRef) → Standing q n ws next stack₀ top₀ i₀ ts → Descended q n ws next stack top i ts
-    track_end h ts s = down_end ws n actions details first next N (T.down ts s) (λ a. h (ap (λ (m : ℕ). get_or actions m 0) T.node ∙ a))
+    pub track_leaf : (get_or actions at 0 ≡ 3 → ⊥) → (ts : List PortRef) → Standing q n ws next stack₀ top₀ i₀ ts → Descended q n ws next stack top i ts
+    track_leaf h ts s = down_end ws n actions details first next N (T.down ts s) (λ a. h (ap (λ (m : ℕ). get_or actions m 0) T.node ∙ a))
+
+-- a way that is one for every plan with these actions, whatever its details are
+module _ {ws : List Wire} {n : ℕ} {actions first next stack₀ : List ℕ} {top₀ i₀ : ℕ} {stack : List ℕ} {top i steps at : ℕ} (T : (details : List ℕ) (ts : List PortRef) → Net ws n actions details first next → Standing (shape_of ws actions details) n ws next stack₀ top₀ i₀ ts → Tracks (shape_of ws actions details) n ws next stack₀ top₀ i₀ stack top i steps at) where
+  pub track_end : (get_or actions at 0 ≡ 3 → ⊥) → (details : List ℕ) (ts : List PortRef) → Net ws n actions details first next → Standing (shape_of ws actions details) n ws next stack₀ top₀ i₀ ts → Descended (shape_of ws actions details) n ws next stack top i ts
+  track_end h details ts N s = track_leaf N s (T details ts N s) h ts s
 
 -- ---- the way up
 

@@ -146,7 +146,7 @@ module _ {ws : List Wire} {n : ℕ} {actions details sources counts first next :
           absurd (omega (arith, l.some_target, ap length k))
 
   -- what the wire's source comes to, as the code says it
-  origin_cycles : {X : Type 0} (c : ℕ) → c ≡ count_in actions counts w.target → (c ≡ 0 → ⊥) → origin_of (follow q n w.source) ≡ Origin.Cycles → X
+  pub origin_cycles : {X : Type 0} (c : ℕ) → c ≡ count_in actions counts w.target → (c ≡ 0 → ⊥) → origin_of (follow q n w.source) ≡ Origin.Cycles → X
   unfolding origin_of
   origin_cycles {X} c e z o = go by
     where
@@ -160,7 +160,7 @@ module _ {ws : List Wire} {n : ℕ} {actions details sources counts first next :
       go (Becomes.dropped l f b) = absurd (omega (arith, ap code (sym (ap origin_of f) ∙ o)))
       go (Becomes.wires l s f b) = absurd (omega (arith, ap code (sym (ap origin_of f) ∙ o)))
 
-  origin_drops : origin_of (follow q n w.source) ≡ Origin.Drops → becomes q n w ≡ []
+  pub origin_drops : origin_of (follow q n w.source) ≡ Origin.Drops → becomes q n w ≡ []
   unfolding origin_of
   origin_drops o = go by
     where

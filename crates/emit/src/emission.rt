@@ -91,7 +91,7 @@ impl<'a> Emission<'a> {
             return at;
         }
         match sources::origin(
-            self.wires,
+            self.wires.records,
             &self.plan.actions,
             &self.rewrites.sources,
             wire.source,
@@ -113,7 +113,7 @@ impl<'a> Emission<'a> {
             return self.write_planned(stack, i, out, at);
         }
         match sources::origin(
-            self.wires,
+            self.wires.records,
             &self.plan.actions,
             &self.rewrites.sources,
             wire.source,

@@ -32,7 +32,7 @@ pub fn write_wires(
     ensures { Written (each wire_bytes (or_nil (rewrite_wires (shape_of (wires_of wires.now.records.now) plan.now.actions plan.now.details) wires.now.nodes (wires_of wires.now.records.now)))) out.old out.new at result }
 {
     let mut first = rewrites.chains.first;
-    sharing::share_chains(wires, plan, rewrites, &mut first);
+    sharing::share_chains(wires.records, wires.nodes, plan, rewrites, &mut first);
     let emission = Emission {
         wires,
         plan,

@@ -106,14 +106,15 @@ fn write_composite(out: &mut [u8], at: usize, kind: u8, words: Words) -> usize
 }
 
 // The bytes of the value of a kind that these words hold, without kind, node and port.
+#[inline]
 pub fn write_bytes(out: &mut [u8], at: usize, kind: u8, words: Words) -> usize
     requires { (role_of kind ≡ Role.Property) × (at + length (value_bytes (held_by kind words)) ≤ length out.old) }
     ensures written { Written (value_bytes (held_by kind words)) out.old out.new at result }
     ensures back { value_at kind out.new at ≡ held_by kind words }
 {
     match kind {
-        kind::INT => write_u64(out, at, words.a),
         kind::FLOAT => write_float(out, at, words.a),
+        kind::INT => write_u64(out, at, words.a),
         kind::BOOL => write_byte(out, at, u8::from(words.a == 1)),
         _ if kind <= kind::COLOR => write_composite(out, at, kind, words),
         _ => {

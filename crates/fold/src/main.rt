@@ -27,6 +27,12 @@ fn read_input<R: Read>(from: &mut R, buffer: &mut [u8]) -> io::Result<usize>
     Ok(done)
 }
 
+// Whether no more comes of an input that ended.
+fn at_end<R: Read>(from: &mut R) -> bool {
+    let mut byte = [0u8; 1];
+    matches!(from.read(&mut byte), Ok(0))
+}
+
 // Folds into a buffer, and writes what came.
 fn fold<P: Print>(rt: &P, input: &[u8], out: &mut [u8]) -> io::Result<()> {
     match folding::fold(input, out) {
@@ -37,9 +43,13 @@ fn fold<P: Print>(rt: &P, input: &[u8], out: &mut [u8]) -> io::Result<()> {
 
 fn main(rt: HostRuntime) {
     let mut input = [0u8; MOST];
-    let Ok(n) = read_input(&mut rt.stdin(), &mut input) else {
-        let _ = eprintln!(rt; "fold: the input cannot be read");
-        return;
+    let mut stdin = rt.stdin();
+    let n = match read_input(&mut stdin, &mut input) {
+        Ok(n) if n == MOST || at_end(&mut stdin) => n,
+        _ => {
+            let _ = eprintln!(rt; "fold: the input cannot be read");
+            return;
+        }
     };
     let mut out = [0u8; ROOM];
     if fold(&rt, &input[..n], &mut out).is_err() {

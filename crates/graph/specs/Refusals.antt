@@ -32,6 +32,10 @@ place_of (TooMany at) = at
 place_of (Endless at) = at
 place_of NoSpace = 0
 
+-- one of the questions that decoding asks, 1 to 8 and 12: 9 and 10 are asked of an accepted graph alone
+abbrev pub IsOfDecoding : Refusal → Type 0
+IsOfDecoding r = (number_of r ≡ 9 → ⊥) × (number_of r ≡ 10 → ⊥)
+
 -- the counts of an accepted graph, or a refusal's number and place
 pub data Report : Type 0 where
   counts : Counts → Report

@@ -1,5 +1,5 @@
 // Questions 2 to 8 and 12, each asked of the record at an offset, and the first that is answered with no.
-ghost use Rattle.std.specs.Prelude.{◌≡◌, true, ◌+◌, ◌≤◌, ◌<◌, length};
+ghost use Rattle.std.specs.Prelude.{◌≡◌, true, ◌+◌, ◌≤◌, ◌<◌, length, IfSome};
 ghost use Rattle.encoding.specs.Numbers.{byte, u16_at};
 ghost use Rattle.ir.specs.declared.Role.{Role};
 ghost use Rattle.ir.specs.Classes.{is_annihilator};
@@ -8,7 +8,7 @@ ghost use Rattle.graph.specs.Graph.{Graph, counts_of, member};
 ghost use Rattle.graph.specs.Layout.{size_by, size_of};
 ghost use Rattle.graph.specs.Questions.{is_listed, is_variant, has_listed_text, orders_no_text, has_nodes, is_first, has_room};
 ghost use Rattle.graph.specs.Decode.{refusal_at};
-ghost use Rattle.graph.specs.Refusals.{Names};
+ghost use Rattle.graph.specs.Refusals.{Names, IsOfDecoding};
 ghost use Rattle.graph.specs.Index.{Held, Sound, Next, slot};
 
 use crate::{Counts, Record, Refusal, SLOTS};
@@ -152,7 +152,8 @@ fn has_room(counts: Counts, role: Role) -> bool
 #[tactic(auto, unfolding(crate::specs::Decode::refusal_at, crate::specs::Questions::first_no))]
 pub fn check(s: &[u8], at: usize, last: u8, counts: Counts, table: &[u16; SLOTS]) -> Option<Refusal>
     requires { (at < length s.now) × (counts.nodes ≤ 1024) }
-    ensures { (g : Graph) → Held g counts s.now table.now → Names result (refusal_at last g s.now at) at }
+    ensures first { (g : Graph) → Held g counts s.now table.now → Names result (refusal_at last g s.now at) at }
+    ensures decoding { IfSome result IsOfDecoding }
 {
     let kind = s[at];
     let role = kind::role_of(kind);

@@ -28,34 +28,26 @@ fn count_property(kind: u8, counts: Counts) -> Counts
     requires { (counts.properties < max_properties) × (counts.texts ≤ counts.properties) }
     ensures { (g : Graph) (s : List ℕ) (at : ℕ) → counts ≡ counts_of g → kind ≡ byte s at → role_at s at ≡ Role.Property → result ≡ counts_of (add_property g (property_at s at)) }
 {
-    Counts {
-        properties: counts.properties + 1,
-        texts: counts.texts + usize::from(kind == kind::TEXT),
-        ..counts
-    }
+    let mut more = counts;
+    more.properties += 1;
+    more.texts += usize::from(kind == kind::TEXT);
+    more
 }
 
 pub fn count(r: &Record, counts: Counts) -> Counts
     requires { Sound counts.nodes r.now.role r.now.input.now r.now.at × (has_room counts r.now.role ≡ true) × (counts.annihilators ≤ 65536) × (counts.texts ≤ counts.properties) × (r.now.role ≡ role_at r.now.input.now r.now.at) }
     ensures { (g : Graph) → counts ≡ counts_of g → result ≡ counts_of (add r.now.role g r.now.input.now r.now.at) }
 {
+    let mut more = counts;
     match r.role {
-        Role::Unlisted => counts,
-        Role::Node => Counts {
-            nodes: counts.nodes + 1,
-            ..counts
-        },
-        Role::Wire => Counts {
-            wires: counts.wires + 1,
-            ..counts
-        },
-        Role::Property => count_property(r.byte(0), counts),
-        Role::Row => Counts {
-            rows: counts.rows + 1,
-            ..counts
-        },
-        Role::Annihilator => count_annihilator(r.byte(1), counts),
+        Role::Unlisted => return more,
+        Role::Node => more.nodes += 1,
+        Role::Wire => more.wires += 1,
+        Role::Property => return count_property(r.byte(0), counts),
+        Role::Row => more.rows += 1,
+        Role::Annihilator => return count_annihilator(r.byte(1), counts),
     }
+    more
 }
 
 pub fn index(r: &Record, table: &mut [u16; SLOTS])

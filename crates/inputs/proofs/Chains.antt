@@ -71,6 +71,10 @@ module _ {wires first next : List ℕ} (w : Wired wires first next) (n p : ℕ) 
   pub port_says : {f h : Feeds} → f ≡ feeds_of first next (slot n p) → f ≡ h → Says (wires_of wires) (feeds_in (wires_of wires) n p) h
   port_says e z = rw (← z, e) (says (wires_of wires) first next (slot n p) refl chain)
 
+-- a wire's source is a node
+pub source_node_lem : {wires first next : List ℕ} (w : Wired wires first next) (i : ℕ) → i < length (wires_of wires) → (get_or (wires_of wires) i no_wire).source.node_id < max_nodes
+source_node_lem w i h = omega (arith, (w.bounded.named i h).source, w.bounded.few_nodes)
+
 module _ (known : Map Value) {xs : List Wire} where
   pub resolve_none : xs ≡ [] → Resolved.Unwired ≡ resolve_wires known xs
   unfolding resolve_wires

@@ -4,8 +4,9 @@ use Rattle.std.proofs.lemmas.Bool.Decides.{nat_tests}
 use Prim.Native.Nat.{ℕ, ◌<◌}
 use native.Mathlib.Omega.{arith}
 use mathlib.Core.Path.{◌≡◌, refl, ◌∙◌}
-use mathlib.Core.Bool.{Bool, true}
+use mathlib.Core.Bool.{Bool, true, cond}
 use mathlib.Core.List.{List, [], ◌∷◌}
+use lib.Dec.{eqb}
 use Rattle.ir.specs.Classes.{class_count}
 use Rattle.ir.specs.Variants.{variant_count}
 use Rattle.value.specs.Variants.{variant_of, in_variant}
@@ -24,13 +25,20 @@ use Rattle.inputs.specs.Inputs.{input_if, kind_variant}
 
 -- ---- the variant of a kind
 
+module _ (x y z u v w q t : Value) (hx : variant_of x ≡ 1) (hy : variant_of y ≡ 2) (hz : variant_of z ≡ 3) (hu : variant_of u ≡ 4) (hv : variant_of v ≡ 5) (hw : variant_of w ≡ 6) (hq : variant_of q ≡ 7) (ht : variant_of t ≡ 8) where
+  abbrev by_kind : ℕ → Value
+  by_kind k = cond (eqb k 3) x (cond (eqb k 4) y (cond (eqb k 5) z (cond (eqb k 6) u (cond (eqb k 7) v (cond (eqb k 8) w (cond (eqb k 9) q t))))))
+
+  kind_variant_lem : (k : ℕ) → variant_of (by_kind k) ≡ kind_variant k
+  kind_variant_lem k = grind (arith, nat_tests)
+
 held_value_lem : (k a b c d : ℕ) → variant_of (held_value k a b c d) ≡ kind_variant k
 unfolding held_value held_composite_or_text
-held_value_lem k a b c d = grind (arith, nat_tests)
+held_value_lem k a b c d = kind_variant_lem _ _ _ _ _ _ _ _ refl refl refl refl refl refl refl refl k
 
 pub value_at_lem : (k : ℕ) (s : List ℕ) (i : ℕ) → variant_of (value_at k s i) ≡ kind_variant k
 unfolding value_at composite_or_text_at
-value_at_lem k s i = grind (arith, nat_tests)
+value_at_lem k s i = kind_variant_lem _ _ _ _ _ _ _ _ refl refl refl refl refl refl refl refl k
 
 pub held_some : (k a b c d : ℕ) → (k ≡ 0 → ⊥) → kind_variant k ≡ in_variant (operand_of (carried (held k a b c d)))
 unfolding held

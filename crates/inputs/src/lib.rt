@@ -86,10 +86,12 @@ pub fn resolve_input(
 {
     match feeds_of(feeds, node, port) {
         Feeds::None => Resolved::Unwired,
-        Feeds::One(wire) => source_value(wires, known, wire).map_or(
-            Resolved::Unresolved,
-            Resolved::Known,
-        ),
+        Feeds::One(wire) => {
+            let Some(v) = source_value(wires, known, wire) else {
+                return Resolved::Unresolved;
+            };
+            Resolved::Known(v)
+        }
         Feeds::Many => Resolved::Unresolved,
     }
 }
@@ -103,10 +105,10 @@ pub fn resolve_data_input(reads: &Reads, known: &Known, node: usize, port: u8) -
     let Resolved::Unwired = input else {
         return input;
     };
-    reads
-        .properties
-        .get(node, port)
-        .map_or(Resolved::Unwired, Resolved::Known)
+    let Some(v) = reads.properties.get(node, port) else {
+        return Resolved::Unwired;
+    };
+    Resolved::Known(v)
 }
 
 // The variant of the values of a kind.
@@ -209,7 +211,25 @@ fn scalar(variant: u8, word: u64) -> Operand
     Some(value)
 }
 
-// The operand at a port that is located. A scalar is at hand; another is read where it is found.
+// The operand at a port that has a value, read where it is found.
+fn load_operand(
+    located: Located,
+    properties: &Properties,
+    known: &Known,
+    node: usize,
+    port: u8,
+) -> Operand
+    requires { (node < max_nodes) × (port ≤ value_port) × IfSome located.source (λ m. m < max_nodes) }
+    ensures { (i : Resolved) → Locates i (property (graph_of properties.now.input.now) node port) (known_of known.now.kinds known.now.words) located → 0 < located.variant → result ≡ operand_of i }
+{
+    let Some(source) = located.source else {
+        return properties.get(node, port);
+    };
+    known.load(source)
+}
+
+// The operand at a port that is located. A scalar is at hand.
+#[inline(always)]
 pub fn operand_at(
     located: Located,
     properties: &Properties,
@@ -226,10 +246,7 @@ pub fn operand_at(
     if located.variant <= variant::BOOL {
         return scalar(located.variant, located.word);
     }
-    let Some(source) = located.source else {
-        return properties.get(node, port);
-    };
-    known.load(source)
+    load_operand(located, properties, known, node, port)
 }
 
 // The truth of the condition at a port of a Select or a Branch: one that is resolved, and whose one-variant row is in the table.

@@ -8,6 +8,7 @@ ghost use Rattle.graph.specs.Index.{Indexed};
 ghost use Rattle.model.specs.Own.{own_of};
 ghost use Rattle.model.specs.Trial.{empty};
 ghost use Rattle.state.specs.Planned.{Holds};
+ghost use Rattle.wire_index.specs.Chains.{Feeds, Consumers};
 ghost use Rattle.propagation.specs.Propagation.{Settled, Propagates};
 
 use graph::{Counts, Refusal, SLOTS};
@@ -44,6 +45,32 @@ fn make_reads<'a>(
     }
 }
 
+// The worklist over the indexes of the wires. The table of rows is laid out here, in the place on the stack that those indexes took to be made.
+fn run_worklist(
+    records: &Records,
+    table: &[u16; SLOTS],
+    feeds: &Chains<SLOTS>,
+    consumers: &Chains<{ limit::NODES }>,
+    own: &[u8; limit::NODES],
+    known: &mut Known,
+    plan: &mut Plan,
+) -> usize
+    requires indexed { Indexed (graph_of records.now.input.now).properties records.now.input.now table.now }
+    requires linked { Feeds (graph_of records.now.input.now).wires feeds.now.first feeds.now.next × Consumers (graph_of records.now.input.now).wires consumers.now.first consumers.now.next }
+    requires fresh { Holds (graph_of records.now.input.now) known.old.kinds known.old.words plan.old.actions plan.old.details empty }
+    ensures { Settled records.now.input.now (own_of (graph_of records.now.input.now) own.now) records.now.counts known.new.kinds known.new.words plan.new.actions plan.new.details result }
+{
+    let wires = records.wires();
+    let mut rows = table::NO_ROWS;
+    table::index_rows(records.rows(), &mut rows);
+    let properties = Properties {
+        input: records.input,
+        table,
+    };
+    let reads = make_reads(records.counts, properties, wires, feeds, &rows);
+    worklist::run(&reads, consumers, own, known, plan)
+}
+
 // The worklist of an accepted input, whose properties the table indexes. Nothing is known and nothing planned at first. The pops.
 pub fn propagate_graph<'a>(
     records: &Records<'a>,
@@ -58,16 +85,9 @@ pub fn propagate_graph<'a>(
     let wires = records.wires();
     let mut feeds = Chains::<SLOTS>::new();
     let mut consumers = Chains::<{ limit::NODES }>::new();
-    let mut rows = table::NO_ROWS;
     wire_index::link_feeds(&wires, &mut feeds);
     wire_index::link_consumers(&wires, &mut consumers);
-    table::index_rows(records.rows(), &mut rows);
-    let properties = Properties {
-        input: records.input,
-        table,
-    };
-    let reads = make_reads(records.counts, properties, wires, &feeds, &rows);
-    worklist::run(&reads, &consumers, own, known, plan)
+    run_worklist(records, table, &feeds, &consumers, own, known, plan)
 }
 
 // Questions 1 to 8 and 12 of an input, and the worklist of an accepted one. Whatever was known and planned is cleared; a refusal leaves

@@ -93,6 +93,9 @@ module _ (ws : List Wire) (actions details : List ℕ) (n : ℕ) (down : Bool) w
     pub each : Jumped ws actions details sources far
     pub before : (k : ℕ) → k < i → get_or actions (turned n down k) 0 ≡ 2 → Along ws actions details (2 * far) (turned n down k) (get_or sources (turned n down k) 0)
 
+  pub round_start : (sources : List ℕ) (far : ℕ) → Jumped ws actions details sources far → Round sources far 0
+  round_start sources far j = record { each = j; before = λ k l. absurd (omega arith) }
+
   -- a Select that has come past the Selects is as far as can be
   along_ended : (far far' m s : ℕ) → (get_or actions (get_or ws s no_wire).source.node_id 0 ≡ 2 → ⊥) → Along ws actions details far m s → Along ws actions details far' m s
   along_ended far far' m s h a = record { steps = a.steps; leads = a.leads; enough = λ e. absurd (h e) }
@@ -136,6 +139,10 @@ pub record Jumping (ws : List Wire) (actions : List ℕ) (n : ℕ) (down : Bool)
   pub round : (details : List ℕ) → Jumped ws actions details old far → Round ws actions details n down sources far i
   pub same : any ≡ false → sources ≡ old
   pub still : any ≡ false → (k : ℕ) → k < i → jumps ws actions sources (turned n down k) ≡ false
+
+pub jumping_start : (ws : List Wire) (actions : List ℕ) (n : ℕ) (down : Bool) (sources : List ℕ) (far : ℕ) → Traced ws actions sources → Jumping ws actions n down sources sources false far 0
+jumping_start ws actions n down sources far t =
+    record { traced = t; round = λ details j. round_start ws actions details n down sources far j; same = λ e. refl; still = λ e k l. absurd (omega arith) }
 
 module _ (ws : List Wire) (actions : List ℕ) (n : ℕ) (down : Bool) (old sources : List ℕ) (any : Bool) (far i m : ℕ) (e : m ≡ turned n down i) (l : m < max_nodes) (j : Jumping ws actions n down old sources any far i) where
   unmoved : (any || jumps ws actions sources m) ≡ false → jumped ws actions sources m ≡ sources
@@ -218,3 +225,11 @@ module _ (ws : List Wire) (actions details : List ℕ) (n : ℕ) (s : Shaped ws 
           go : Dec (get_or actions (passed_to ws sources e.node_id).node_id 0 ≡ 2) → follow (shape_of ws actions details) n e ≡ follow (shape_of ws actions details) 0 (passed_to ws sources e.node_id)
           go (yes q) = follow_cycles (shape_of ws actions details) n (a.steps + 0) (omega (arith, a.enough q)) e (there ∙ select_cycles _ q) ∙ sym (select_cycles _ q)
           go (no q) = follow_found (shape_of ws actions details) n (small ws actions details n s) (a.steps + 0) e (rw there (found_end 0 _ q)) ∙ there
+
+  -- there is no Select
+  pub sources_none : (sources : List ℕ) → sources ≡ details → ((m : ℕ) → m < n → get_or actions m 0 ≡ 2 → ⊥) → Sources ws n actions details sources
+  sources_none sources e none-planned =
+      record { long = ap length e ∙ s.details_long; inside = λ m h. absurd (no_select m h); right = λ x h. absurd (no_select x.node_id h) }
+    where
+      no_select : (m : ℕ) → get_or actions m 0 ≡ 2 → ⊥
+      no_select m h = none-planned m (planned_low ws actions details n s m (λ q. let z : ◌≡◌ {A = ℕ} 2 0 = sym h ∙ q in omega arith)) h

@@ -1,8 +1,8 @@
 -- What is planned of a node, by its action.
 use Rattle.std.specs.Prelude.{None, Some}
-use Prim.Native.Nat.{ℕ, zero, suc, ◌≤◌, ◌<◌}
+use Prim.Native.Nat.{ℕ, zero, suc, ◌+◌, ◌≤◌, ◌<◌}
 use native.Mathlib.Omega.{arith}
-use native.Mathlib.Decide.{dec_lt}
+use native.Mathlib.Decide.{dec_lt, ℕ_discrete}
 use mathlib.Core.Path.{◌≡◌, refl, sym, ◌∙◌}
 use mathlib.Core.Bool.{Bool, true, false, ◌||◌, false≢true}
 use mathlib.Core.Logic.{◌⊎◌, inl, inr, ⊎_elim}
@@ -66,6 +66,14 @@ module _ (ws : List Wire) (actions details : List ℕ) where
     small m q e = planned_low m (λ z. none_some q (sym (shape_kept m z) ∙ e))
 
 -- ---- whether one of the first nodes has an action
+
+-- no action of the first nodes is a, and the next is none
+pub none_more : (a : ℕ) (actions : List ℕ) (found : Bool) (node : ℕ) → (found ≡ false → (m : ℕ) → m < node → get_or actions m 0 ≡ a → ⊥) → (found || eqb (get_or actions node 0) a) ≡ false → (m : ℕ) → m < node + 1 → get_or actions m 0 ≡ a → ⊥
+none_more a actions found node inv e m l h = pick (ℕ_discrete m node)
+  where
+    pick : Dec (m ≡ node) → ⊥
+    pick (yes q) = eqb-false (get_or actions node 0) a (or_false_right found _ e) (rw q at h)
+    pick (no q) = inv (or_false_left found _ e) m (omega arith) h
 
 abbrev pub either : ℕ → Bool → ℕ → Bool
 either a found x = found || eqb x a

@@ -46,6 +46,15 @@ module _ (ws : List Wire) (actions counts next : List ℕ) where
             sums = sum_one actions counts sum c total v.passed (get_or ws i no_wire) v.sums q h;
           }
 
+  pub walk_stop : (code sum at total i c : ℕ) → Walking code sum at total → at ≡ i + 1 → c ≡ count_in actions counts (get_or ws i no_wire).target → no_count ≤ c → Walks ws actions counts next code sum (record { code = at; sum = total })
+  walk_stop code sum at total i c w e q h =
+      record {
+        low = w.low;
+        within = w.within;
+        stops = λ l. let z : at - 1 ≡ i = omega arith in rw z (omega arith);
+        along = w.along;
+      }
+
   pub walk_end : (code sum at total : ℕ) → Walking code sum at total → at ≤ 0 → Walks ws actions counts next code sum (record { code = at; sum = total })
   walk_end code sum at total w h = record { low = w.low; within = w.within; stops = λ l. absurd (omega arith); along = w.along }
 

@@ -4,10 +4,11 @@ ghost use Rattle.ir.specs.Limits.{max_nodes};
 ghost use Rattle.ir.specs.declared.Wire.{Wire};
 ghost use Rattle.records.specs.Access.{wires_of};
 ghost use Rattle.rewrite.specs.Taken.{Later};
-ghost use Rattle.rewrite.specs.Linked.{Linked, leaves, takes_from};
+ghost use Rattle.rewrite.specs.Linked.{Linked, Within, leaves, takes_from};
 
+use encoding::wires;
 use ir::{PortRef, Wire, limit};
-use records::access::Wires;
+use records::access;
 use state::{Plan, TRUNCATE};
 use wire_index::Chains;
 
@@ -21,14 +22,15 @@ pub fn is_taken(plan: &Plan, source: PortRef) -> bool
 }
 
 // Links the wires that pass a test, the last wire first: each goes to the front of its source node's chain.
-pub fn link_all<F: Fn(Wire) -> bool>(wires: &Wires, test: F, chains: &mut Chains<{ limit::NODES }>)
+pub fn link_all<F: Fn(Wire) -> bool>(records: &[u8], test: F, chains: &mut Chains<{ limit::NODES }>)
+    requires within { Within (wires_of records.now) }
     requires callable { (w : Wire) → w.source.node_id < max_nodes → w.target.node_id < max_nodes → F.pre test w }
-    requires later { Later (wires_of wires.now.records.now) chains.old.next }
-    ensures { (picks : Wire → Bool) → ((w : Wire) (r : Bool) → F.post test w r → r ≡ picks w) → Linked (wires_of wires.now.records.now) (leaves picks) chains.new.first chains.new.next 0 }
+    requires later { Later (wires_of records.now) chains.old.next }
+    ensures { (picks : Wire → Bool) → ((w : Wire) (r : Bool) → F.post test w r → r ≡ picks w) → Linked (wires_of records.now) (leaves picks) chains.new.first chains.new.next 0 }
 {
     chains.first = [0u16; limit::NODES];
-    for i in (0..wires.len()).rev() {
-        let wire = wires.get(i);
+    for i in (0..records.len() / wires::SIZE).rev() {
+        let wire = access::wire(records, i);
         if test(wire) {
             let node = wire.source.node_id;
             chains.next[i] = chains.first[node];

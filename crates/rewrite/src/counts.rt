@@ -178,10 +178,14 @@ pub fn fill(
     if !has_action(&plan.actions, wires.nodes, TRUNCATE) {
         return;
     }
-    chains::link_all(wires, |wire| chains::is_taken(plan, wire.source), chains);
+    chains::link_all(
+        wires.records,
+        |wire| chains::is_taken(plan, wire.source),
+        chains,
+    );
     count_all(wires, plan, chains, counts);
     chains::link_all(
-        wires,
+        wires.records,
         |wire| {
             chains::is_taken(plan, wire.source) && 0 < count_at(&plan.actions, counts, wire.target)
         },

@@ -76,5 +76,5 @@ pub fn rewrite(wires: &Wires, plan: &Plan, rewrites: &mut Rewrites) -> Result<us
 {
     sources::fill(wires, plan, &mut rewrites.sources);
     counts::fill(wires, plan, &mut rewrites.counts, &mut rewrites.chains);
-    tally::scan(wires, plan, rewrites)
+    tally::scan(wires.records, wires.nodes, plan, rewrites)
 }

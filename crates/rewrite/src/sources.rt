@@ -9,7 +9,7 @@ ghost use Rattle.rewrite.specs.Jumps.{jumps, jumped, turned, Jumped};
 
 use crate::{Origin, has_action};
 use ir::{PortRef, limit, port};
-use records::access::Wires;
+use records::access::{self, Wires};
 use state::{BECOME_LITERAL, KEPT, Plan, SHORT_CIRCUIT};
 
 // Planned Select m takes over the wire of the Select that its own wire starts at; whether it starts at one.
@@ -96,19 +96,19 @@ fn settled(actions: &[u8; limit::NODES], source: PortRef) -> Origin
 
 // Where a wire's source comes to, by the array that `fill` filled.
 pub fn origin(
-    wires: &Wires,
+    records: &[u8],
     actions: &[u8; limit::NODES],
     sources: &[u16; limit::NODES],
     source: PortRef,
 ) -> Origin
-    requires { Traced (wires_of wires.now.records.now) actions.now sources.now × (source.node_id < max_nodes) }
-    ensures { (n : ℕ) (details : List ℕ) → Shaped (wires_of wires.now.records.now) n actions.now details → Sources (wires_of wires.now.records.now) n actions.now details sources.now → result ≡ origin_of (follow (shape_of (wires_of wires.now.records.now) actions.now details) n source) }
+    requires { Traced (wires_of records.now) actions.now sources.now × (source.node_id < max_nodes) }
+    ensures { (n : ℕ) (details : List ℕ) → Shaped (wires_of records.now) n actions.now details → Sources (wires_of records.now) n actions.now details sources.now → result ≡ origin_of (follow (shape_of (wires_of records.now) actions.now details) n source) }
 {
     if actions[source.node_id] != SHORT_CIRCUIT {
         return settled(actions, source);
     }
     settled(
         actions,
-        wires.get(usize::from(sources[source.node_id])).source,
+        access::wire(records, usize::from(sources[source.node_id])).source,
     )
 }

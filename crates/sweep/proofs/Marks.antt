@@ -42,6 +42,23 @@ pub none_past : (g : Graph) (actions : List ℕ) (n : ℕ) → length g.nodes �
 unfolding eligible_at size
 none_past g actions n l = rw (le-ltb n (length g.nodes) l) refl
 
+-- ---- one node
+
+module _ (class flags action : ℕ) where
+  pub by_nofold : {b : Bool} → b ≡ nofold flags → b ≡ true → false ≡ eligible_by class flags action
+  by_nofold e t = rw (sym e ∙ t)
+
+  module _ {b : Bool} (nofolds : b ≡ nofold flags) (folds : b ≡ false) where
+    pub by_label : {c : Bool} → c ≡ labelled flags → c ≡ true → false ≡ eligible_by class flags action
+    by_label e t = rw (sym nofolds ∙ folds, sym e ∙ t)
+
+    module _ {c : Bool} (labels : c ≡ labelled flags) (unlabelled : c ≡ false) where
+      pub by_kept : {r : Bool} → action ≡ 0 → r ≡ is_pure class → r ≡ eligible_by class flags action
+      by_kept a p = p ∙ rw (sym nofolds ∙ folds, sym labels ∙ unlabelled, a)
+
+      pub by_literal : (action ≡ 0 → ⊥) → eqb action 1 ≡ eligible_by class flags action
+      by_literal a = rw (sym nofolds ∙ folds, sym labels ∙ unlabelled, ne_eqb action 0 a)
+
 -- ---- marking
 
 pub record Marking (g : Graph) (actions : List ℕ) (i : ℕ) (marks : List Bool) : Type 0 where
@@ -97,3 +114,22 @@ module _ {g : Graph} {kinds words actions details : List ℕ} {s : State} (h : H
 pub eligible_within : (g : Graph) (p : Map PlanAction) (n : ℕ) → eligible g p n ≡ true → n < size g
 unfolding eligible
 eligible_within g p n e = ltb-true n (size g) (and_left (ltb n (size g)) _ e)
+
+-- ---- the actions of nodes that go
+
+pub record Removing (marks : List Bool) (actions : List ℕ) (i : ℕ) (swept : List ℕ) : Type 0 where
+  pub long : length swept ≡ max_nodes
+  pub done : (n : ℕ) → n < i → get_or swept n 0 ≡ cond (get_or marks n false) 2 (get_or actions n 0)
+
+pub removing_start : (marks : List Bool) (actions : List ℕ) (k : ℕ) → k ≡ max_nodes → Removing marks actions 0 (replicate k 0)
+removing_start marks actions k e = record { long = length-replicate {A = ℕ} k 0 ∙ e; done = λ n l. absurd (omega arith) }
+
+pub removing_more : {marks : List Bool} {actions : List ℕ} {i : ℕ} {swept : List ℕ} {a : ℕ} → Removing marks actions i swept → i < max_nodes → a ≡ cond (get_or marks i false) 2 (get_or actions i 0) → Removing marks actions (i + 1) (set swept i a)
+removing_more {marks} {actions} {i} {swept} {a} m l e = record { long = length-set swept i a ∙ m.long; done = λ n k. go n k (same? i n) }
+  where
+    lower : (n : ℕ) → n < i + 1 → (i ≡ n → ⊥) → n < i
+    lower n k ne = omega arith
+
+    go : (n : ℕ) → n < i + 1 → Same i n → get_or (set swept i a) n 0 ≡ cond (get_or marks n false) 2 (get_or actions n 0)
+    go n k (inl s) = subst (λ (j : ℕ). get_or (set swept i a) j 0 ≡ cond (get_or marks j false) 2 (get_or actions j 0)) s.1 (get_or-set_same swept i a 0 (omega (arith, m.long)) ∙ e)
+    go n k (inr s) = get_or-set_other swept i n a 0 (λ x. eqb-false i n s (sym x)) ∙ m.done n (lower n k (eqb-false i n s))

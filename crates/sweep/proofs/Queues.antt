@@ -52,7 +52,7 @@ module _ {eligible : List Bool} {degrees : List ℕ} {marks : List Bool} {order 
       omega (arith, marks_more marks n (omega (arith, q.marks_long)) unmarked, few_marks (set marks n true), q.many)
 
   -- its degree falls, and it stays
-  queued_same : (v : ℕ) → (eligible_in eligible n && eqb v 0) ≡ false → Queued eligible (set degrees n v) marks order tail
+  pub queued_same : (v : ℕ) → (eligible_in eligible n && eqb v 0) ≡ false → Queued eligible (set degrees n v) marks order tail
   queued_same v s =
       record {
         degrees_long = length-set degrees n v ∙ q.degrees_long;

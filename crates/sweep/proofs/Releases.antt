@@ -1,4 +1,5 @@
 -- Degrees: counting the wires that leave each node, and taking away those that go.
+use Rattle.std.proofs.lemmas.List.{take_all}
 use mathlib.Core.Path.{◌≡◌, refl, sym, ap, subst, ◌∙◌}
 use mathlib.Core.Bool.{false}
 use mathlib.Core.List.{List, [], ◌∷◌}
@@ -7,8 +8,8 @@ use Prim.Native.Nat.{ℕ, suc, ◌+◌, ◌-◌, ◌<◌, ◌≤◌}
 use native.Mathlib.Omega.{arith}
 use native.Mathlib.Numerals.{add-one}
 use lib.Dec.{eqb}
-use lib.ListN.{length, get_or, set, take, length-set}
-use lib.Seq.{get_or-set_same, get_or-set_other, take-suc, take-length, length-take-le}
+use lib.ListN.{length, get_or, set, take, length-set, length-take}
+use lib.Seq.{get_or-set_same, get_or-set_other, take-suc}
 use borrow.Author.Tests.{eqb-false, eq-eqb}
 use Rattle.ir.specs.Limits.{max_nodes, max_wires}
 use Rattle.ir.specs.declared.Wire.{Wire}
@@ -52,8 +53,8 @@ take_leaving ws i n l =
     omega (arith, leaving_count (take (suc i) ws) n, ap (count (leaves n)) (take-suc ws i no_wire l), count_append (leaves n) (take i ws) (get_or ws i no_wire ∷ []), leaving_count (take i ws) n)
 
 module _ {ws : List Wire} {i : ℕ} {degrees : List ℕ} (c : Counting ws i degrees) where
-  pub counting_few : length ws ≤ max_wires → i ≤ length ws → (n : ℕ) → n < max_nodes → get_or degrees n 0 ≤ 4097
-  counting_few few low n l = omega (arith, c.counts n l, leaving_few (take i ws) n, length-take-le i ws low, low)
+  pub counting_few : length ws ≤ max_wires → (n : ℕ) → n < max_nodes → get_or degrees n 0 ≤ 4097
+  counting_few few n l = omega (arith, c.counts n l, leaving_few (take i ws) n, length-take i ws)
 
   pub counting_more : (s : ℕ) → i < length ws → s ≡ (get_or ws i no_wire).source.node_id → s < max_nodes → Counting ws (i + 1) (set degrees s (get_or degrees s 0 + 1))
   unfolding bit
@@ -70,8 +71,8 @@ module _ {ws : List Wire} {i : ℕ} {degrees : List ℕ} (c : Counting ws i degr
       go n h (inr d) =
           omega (arith, get_or-set_other degrees s n (get_or degrees s 0 + 1) 0 (λ x. eqb-false s n d (sym x)), c.counts n h, ap bit (ap (λ (k : ℕ). eqb k n) (sym e) ∙ d))
 
-pub counting_ends : (ws : List Wire) (degrees : List ℕ) → Counting ws (length ws) degrees → (n : ℕ) → n < max_nodes → get_or degrees n 0 ≡ 1 + leaving ws n
-counting_ends ws degrees c n h = c.counts n h ∙ ap (λ (xs : List Wire). 1 + leaving xs n) (take-length ws)
+pub counting_ends : (ws : List Wire) (i : ℕ) (degrees : List ℕ) → length ws ≤ i → Counting ws i degrees → (length degrees ≡ max_nodes) × ((n : ℕ) → n < max_nodes → get_or degrees n 0 ≡ 1 + leaving ws n)
+counting_ends ws i degrees l c = (c.long, λ n h. c.counts n h ∙ ap (λ (xs : List Wire). 1 + leaving xs n) (take_all i ws l))
 
 -- ---- one wire less of each node
 

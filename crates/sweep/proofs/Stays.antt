@@ -42,6 +42,9 @@ module _ (marks : List Bool) (ws : List Wire) where
       go true e = rw (← e) refl
       go false e = rw (← e) refl
 
+  pub counted_all : (i left : ℕ) → i ≡ length ws → left ≡ length (keep (stays_in marks) (take i ws)) → left ≡ length (keep (stays_in marks) ws)
+  counted_all i left e f = f ∙ ap (λ (xs : List Wire). length (keep (stays_in marks) xs)) (ap (λ (k : ℕ). take k ws) e ∙ take-length ws)
+
   pub counted_few : (i : ℕ) → length (keep (stays_in marks) (take i ws)) ≤ i
   counted_few i = omega (arith, length_keep (stays_in marks) (take i ws), count_length (stays_in marks) (take i ws), length-take i ws)
 

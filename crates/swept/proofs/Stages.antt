@@ -141,6 +141,10 @@ module _ {input : List ℕ} {c : Counts} {kinds words actions details : List ℕ
         bounded = subst (λ (us : List Wire). Bounded us (size (graph_of input))) (sym z) F.bounded;
       }
 
+-- as the code takes it
+pub emitted_front : {input : List ℕ} {c : Counts} {kinds words actions details : List ℕ} {pops : ℕ} (buffer : List ℕ) (k : ℕ) → Emitted input c kinds words actions details (take k buffer) pops → Emitted input c kinds words actions details (take (k - 0) buffer) pops
+emitted_front {input} {c} {kinds} {words} {actions} {details} {pops} buffer k E = subst (λ (m : ℕ). Emitted input c kinds words actions details (take m buffer) pops) (sym (sub-zero k)) E
+
 -- ---- the nodes that go
 
 module _ {input : List ℕ} {c : Counts} {kinds words actions details wires : List ℕ} {pops : ℕ} (E : Emitted input c kinds words actions details wires pops) where

@@ -24,10 +24,10 @@ unfolding in_range
 range_is (pos n) = refl
 range_is (negsuc n) = and-true _
 
-range→fits : (z : ℤ) → in_range z ≡ true → SFits w64 z
+pub range→fits : (z : ℤ) → in_range z ≡ true → SFits w64 z
 range→fits z h = record { sfits = omega (arith, leb-true (mag z) (2 ^ 63 - 1) (sym (range_is z) ∙ h)) }
 
-fits→range : (z : ℤ) → SFits w64 z → in_range z ≡ true
+pub fits→range : (z : ℤ) → SFits w64 z → in_range z ≡ true
 fits→range z f = range_is z ∙ le-leb (mag z) (2 ^ 63 - 1) (omega arith)
 
 -- a result that is there exactly where z is an Int, and z then

@@ -210,5 +210,5 @@ pub fn shift_right(a: i64, k: i64) -> Option<i64>
 pub fn bit_count(n: i64) -> i64
     ensures { result ≡ bit_count_of n }
 {
-    i64::from(n.count_ones())
+    i64::from(to_bits(n).count_ones())
 }

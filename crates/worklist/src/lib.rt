@@ -16,7 +16,7 @@ ghost use Rattle.resolve.specs.Reads.{IsComplete};
 ghost use Rattle.worklist.specs.Queue.{Waits};
 ghost use Rattle.worklist.specs.Turns.{Turned, Finished};
 
-use crate::queue::QUEUE_PLACES;
+use crate::queue::{QUEUE_PLACES, Queue};
 use inputs::Reads;
 use ir::limit;
 use state::{Known, Plan};
@@ -68,7 +68,8 @@ pub fn run(
     ensures { Finished (graph_in reads.now) (own_of (graph_in reads.now) own.now) known.new.kinds known.new.words plan.new.actions plan.new.details result }
 {
     let mut marks = [false; limit::NODES];
-    let mut queue = queue::start(&mut marks, reads.counts.nodes);
+    let mut queue = Queue::new();
+    queue::start(&mut queue, &mut marks, reads.counts.nodes);
     let mut pops: usize = 0;
     while 0 < queue.count {
         let at = queue.head;

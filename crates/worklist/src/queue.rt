@@ -75,12 +75,12 @@ fn fill(marks: &mut [bool; limit::NODES], places: &mut [u16; QUEUE_PLACES], node
     }
 }
 
-// Every node waits, in number order.
-pub fn start(marks: &mut [bool; limit::NODES], nodes: usize) -> Queue
+// Every node waits, in number order. The queue is lent, so that there is one of it on the stack.
+pub fn start(queue: &mut Queue, marks: &mut [bool; limit::NODES], nodes: usize)
     requires { (nodes ≤ max_nodes) × (marks.old ≡ replicate max_nodes false) }
-    ensures { Queued marks.new result.places result.head result.count (up_to nodes) }
+    ensures { Queued marks.new queue.new.places queue.new.head queue.new.count (up_to nodes) }
 {
-    let mut queue = Queue::new();
+    *queue = Queue::new();
     fill(marks, &mut queue.places, nodes);
-    queue.longer(nodes)
+    queue.count = nodes;
 }

@@ -16,7 +16,7 @@ use Rattle.records.proofs.decode.Goals as goal
 use Rattle.records.proofs.decode.Goals.{In_default}
 
 ok : (c : In_default) → refusal_at c.loop-at.last c.loop-at.invariant.graph c.args.input.now c.loop-at.at ≡ 0
-ok c = sym (rw c.in_default.is at (c.check.ensures c.loop-at.invariant.graph c.loop-at.invariant.held))
+ok c = sym (rw c.in_default.is at (c.check.ensures.first c.loop-at.invariant.graph c.loop-at.invariant.held))
 
 sound : (c : In_default) → Sound c.loop-at.counts.nodes (role_at c.args.input.now c.loop-at.at) c.args.input.now c.loop-at.at
 sound c =
@@ -35,7 +35,7 @@ loop-at-init c =
 pub returns-in-Some : goal.returns-in-Some
 returns-in-Some c =
     let i = c.loop-at.invariant in
-    let n = rw c.in-Some.is at (c.check.ensures i.graph i.held) in
+    let n = rw c.in-Some.is at (c.check.ensures.first i.graph i.held) in
     reports_refused _ c.if-input-gt-INPUT.false _ _ _ _ i c.loop-at-test.true _ _ n.0 (positive c.in-Some.refusal) n.1
 
 pub invariant_of-record : goal.invariant_of-record

@@ -14,6 +14,5 @@ returns c =
     to_z-of_z {w = w64} (record { sfits = c.from.type_inv })
     ∙ c.from.ensures
     ∙ ap pos
-    (c.count_ones.ensures.value
-    ∙ ap (λ z. ones (of_z w64 z)) (to_z-of_z c.ranges.n)
+    (ap ones (c.to_bits.ensures ∙ ap (of_z w64) (to_z-of_z c.ranges.n))
     ∙ ones_sum 64 _ (of_z_fits w64 _ c.ranges.n).fits)

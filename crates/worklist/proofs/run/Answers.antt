@@ -4,11 +4,11 @@ use native.Mathlib.Omega.{arith}
 use Rattle.worklist.proofs.Running.{nodes_few, at_start, at_most, at_end, at_less, at_node, at_unknown, at_rest, at_next}
 use Rattle.worklist.proofs.run.Goals as goal
 
-pub start-queue-requires : goal.start-queue-requires
-start-queue-requires c = let p = c.requires.0 in (nodes_few _ p.counts p.bounded, refl)
+pub start-requires : goal.start-requires
+start-requires c = let p = c.requires.0 in (nodes_few _ p.counts p.bounded, refl)
 
 pub loop-queue-init : goal.loop-queue-init
-loop-queue-init c = let p = c.requires in at_start p.0.counts p.2 c.start-queue.ensures
+loop-queue-init c = let p = c.requires in at_start p.0.counts p.2 c.start.ensures
 
 pub front-n-requires : goal.front-n-requires
 front-n-requires c = c.loop-queue.invariant.queued.head_in

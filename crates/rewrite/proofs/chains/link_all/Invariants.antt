@@ -8,4 +8,4 @@ use Rattle.rewrite.proofs.chains.link_all.Given as goal
 
 abbrev pub invariant-loop-i : goal.invariant-loop-i
 invariant-loop-i g l =
-    (picks : Wire → Bool) → ((w : Wire) (r : Bool) → goal.F-post g l.test w r → r ≡ picks w) → Linked (wires_of l.wires.records.now) (leaves picks) l.chains.first l.chains.next l.i
+    (picks : Wire → Bool) → ((w : Wire) (r : Bool) → goal.F-post g l.test w r → r ≡ picks w) → Linked (wires_of l.records) (leaves picks) l.chains.first l.chains.next l.i

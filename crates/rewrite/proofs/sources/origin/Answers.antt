@@ -7,4 +7,4 @@ pub returns-then-actions-source-ne-SHORT_CIRCUIT : goal.returns-then-actions-sou
 returns-then-actions-source-ne-SHORT_CIRCUIT c = λ n details s r. c.settled.ensures ∙ origin_here _ _ details n s _ c.if-actions-source-ne-SHORT_CIRCUIT.true
 
 pub returns : goal.returns
-returns c = λ n details s r. c.settled-2.ensures ∙ rw (c.get.ensures, c.from.ensures) (origin_passed _ _ details n s _ r _ c.if-actions-source-ne-SHORT_CIRCUIT.false)
+returns c = λ n details s r. c.settled-2.ensures ∙ rw (c.wire.ensures, c.from.ensures) (origin_passed _ _ details n s _ r _ c.if-actions-source-ne-SHORT_CIRCUIT.false)

@@ -4,4 +4,4 @@ use Rattle.rewrite.proofs.KeptTargets.{Counting}
 use Rattle.rewrite.proofs.tally.count_kept.Given as goal
 
 abbrev pub invariant-loop-i : goal.invariant-loop-i
-invariant-loop-i l = Counting l.actions (wires_of l.wires.records.now) l.i l.count
+invariant-loop-i l = Counting l.actions (wires_of l.records) l.i l.count

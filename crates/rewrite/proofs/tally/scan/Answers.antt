@@ -9,4 +9,4 @@ returns-then-any_above c = c.weigh_all.ensures _
 
 pub returns : goal.returns
 returns c details F =
-    kept_counted _ _ details _ F.shaped (c.any_above.ensures.low c.if-any_above.false) _ (omega (arith, kept_few c.args.plan.now.actions (wires_of c.args.wires.now.records.now), c.requires.within.few)) _ c.count_kept.ensures
+    kept_counted _ _ details _ F.shaped (c.any_above.ensures.low c.if-any_above.false) _ (omega (arith, kept_few c.args.plan.now.actions (wires_of c.args.records.now), c.requires.0.within.few)) _ c.count_kept.ensures

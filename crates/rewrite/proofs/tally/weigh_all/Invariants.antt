@@ -7,4 +7,4 @@ use Rattle.rewrite.proofs.tally.weigh_all.Given as goal
 
 abbrev pub invariant-loop-i : goal.invariant-loop-i
 invariant-loop-i l =
-    (l.count ≤ 4097 * l.i) × Scanning (wires_of l.wires.records.now) l.plan.actions l.rewrites.sources l.rewrites.counts l.i (cap l.count)
+    (l.count ≤ 4097 * l.i) × Scanning (wires_of l.records) l.plan.actions l.rewrites.sources l.rewrites.counts l.i (cap l.count)

@@ -3,7 +3,7 @@ use mathlib.Core.Path.{ap}
 use Prim.Native.Nat.{ℕ, ◌-◌}
 use native.Mathlib.Omega.{arith}
 use Rattle.ir.specs.declared.Wire.{Wire}
-use Rattle.emit.proofs.Stacks.{track_start, track_low, stepped, track_step, track_end}
+use Rattle.emit.proofs.Stacks.{track_start, track_low, stepped, track_step, track_leaf}
 use Rattle.emit.proofs.emission.Emission.descend.Goals as goal
 
 pub overflow_sub-wire : goal.overflow_sub-wire
@@ -28,4 +28,4 @@ pub loop-target-preserved : goal.loop-target-preserved
 loop-target-preserved c = track_step c.requires.net c.requires.stands c.loop-target.invariant c.loop-target-test.true _ _ _ _ (ap (λ (x : ℕ). x - 1) c.from-wire.ensures) c.push.ensures (ap (λ (w : Wire). w.target.node_id) c.get-target-in-loop-target.ensures)
 
 pub returns : goal.returns
-returns c = track_end c.requires.net c.requires.stands c.loop-target.invariant c.loop-target-test.false
+returns c = track_leaf c.requires.net c.requires.stands c.loop-target.invariant c.loop-target-test.false

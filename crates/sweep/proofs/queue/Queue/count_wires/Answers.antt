@@ -18,7 +18,7 @@ pub loop-i-init : goal.loop-i-init
 loop-i-init c = (refl, c.requires.0, counting_start _ c.args.self.now.queued.degrees_long c.requires.1)
 
 pub overflow_add-self : goal.overflow_add-self
-overflow_add-self c = record { fits = omega (arith, counting_few c.loop-i.invariant.2 c.args.wires.now.bounded.few_wires (omega arith) c.get.result.source.node_id (source_low (goal.at.overflow_add-self c).After-get)) }
+overflow_add-self c = record { fits = omega (arith, counting_few c.loop-i.invariant.2 c.args.wires.now.bounded.few_wires c.get.result.source.node_id (source_low (goal.at.overflow_add-self c).After-get)) }
 
 pub loop-i-preserved : goal.loop-i-preserved
 loop-i-preserved c = (c.loop-i.invariant.0, c.loop-i.invariant.1, counting_more c.loop-i.invariant.2 _ (omega arith) (ap (λ (w : Wire). w.source.node_id) c.get.ensures) (source_low (goal.at.loop-i-preserved c).After-get))
